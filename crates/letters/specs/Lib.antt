@@ -1,0 +1,3 @@
+pub mod Alphabets
+pub mod Declarations
+pub mod Letters

@@ -1,0 +1,6 @@
+//! The larger tests, over all the crates below.
+#[cfg(test)]
+mod letter_tests;
+pub mod reading;
+#[cfg(test)]
+mod reading_tests;

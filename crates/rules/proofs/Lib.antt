@@ -1,0 +1,5 @@
+pub mod Capping
+pub mod Counting
+pub mod Follows
+pub mod Leads
+pub mod Spans

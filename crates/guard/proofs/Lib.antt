@@ -1,0 +1,13 @@
+pub mod Alikes
+pub mod Automaton
+pub mod Closes
+pub mod Cycles
+pub mod Invariant
+pub mod Lines
+pub mod Making
+pub mod RunLoop
+pub mod Steps
+pub mod Taken
+pub mod Theorem
+pub mod Walking
+pub mod Writing

@@ -14,10 +14,14 @@ abbrev pub and-then : Option ℕ → (ℕ → Option ℕ) → Option ℕ
 and-then None on = None
 and-then (Some q) on = on q
 
--- the place that a list leads to, if each of its letters is admitted in turn
+-- the place that a list leads to from a place, letter by letter
+abbrev pub follow-by : (ℕ → ℕ → Option ℕ) → ℕ → List ℕ → Option ℕ
+follow-by next p [] = Some p
+follow-by next p (a ∷ xs) = and-then (next p a) (λ q. follow-by next q xs)
+
+-- the same under a rule: each of the letters is admitted in turn
 abbrev pub follow : Meaning → ℕ → List ℕ → Option ℕ
-follow m p [] = Some p
-follow m p (a ∷ xs) = and-then (m .next p a) (λ q. follow m q xs)
+follow m p xs = follow-by (m .next) p xs
 
 abbrev pub Admitted : Meaning → ℕ → List ℕ → Type 0
 Admitted m p xs = isSome (follow m p xs) ≡ true

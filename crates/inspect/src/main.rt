@@ -1,9 +1,14 @@
 //! `inspect [FILE ..]` prints a line for each record of a property file (rule.bin where none is named; a missing
-//! file is an empty one), and then its counts, or the refusal that reading it meets. Several files are headed by
-//! their names.
+//! file is an empty one), its counts, and of each node its size and whether it closes; or the records before the
+//! first fault, and the refusal. Several files are headed by their names.
+use letters::alphabet::Alphabet;
 use letters::letter::Kind;
 use letters::letter::Letter;
 use letters::letter::read;
+use property::check::read_property;
+use property::fault::PropertyFault;
+use property::place::Nodes;
+use property::sizes::MOST_SIZE;
 use records::body::branch_at;
 use records::body::branch_count;
 use records::body::number;
@@ -102,50 +107,101 @@ fn print_declared(rt: &LibcRuntime, at: usize, body: &[u8]) -> io::Result<()> {
     println!(rt, "")
 }
 
-/// Prints a refusal with its reason.
-fn print_refusal(rt: &LibcRuntime, fault: ReadFault) -> io::Result<()> {
-    let report = fault.report();
-    let number = report.number;
-    let offset = report.offset;
-    let reason = match fault {
+/// What is wrong with a file's records, in words.
+fn read_reason(fault: ReadFault) -> &'static str {
+    match fault {
         ReadFault::TooLong => "the file is over 16384 bytes",
         ReadFault::CutOff(_) => "the record is cut off",
         ReadFault::UnknownKind(_) => "there is no such kind of record",
         ReadFault::WrongLength(_) => "the length is wrong for the kind",
-    };
+    }
+}
+
+/// What is wrong with a file, in words.
+fn reason(fault: PropertyFault) -> &'static str {
+    match fault {
+        PropertyFault::Read(fault) => read_reason(fault),
+        PropertyFault::Declaration(_) => "the letter may not be declared here",
+        PropertyFault::TooManyNodes(_) => "there are over 256 nodes",
+        PropertyFault::NotEarlier(_) => "a node that it names is not earlier",
+        PropertyFault::WrongKind(_) => "a node that it names is of the wrong kind",
+        PropertyFault::BranchLetter(_) =>
+            "branch letters do not ascend, or are not in the alphabet",
+        PropertyFault::OpenLap(_) => "the lap is over a node that does not close",
+        PropertyFault::NoProperty(_) => "there is no node, or the last is neither a lap nor an all",
+    }
+}
+
+/// Prints a refusal with its reason.
+fn print_refusal(rt: &LibcRuntime, fault: PropertyFault) -> io::Result<()> {
+    let report = fault.report();
+    let number = report.number;
+    let offset = report.offset;
+    let reason = reason(fault);
     println!(rt, "refused {number} at {offset}: {reason}")
 }
 
-/// Prints the records of a file in order, then the counts or the refusal.
-fn list(rt: &LibcRuntime, file: &[u8]) -> io::Result<()> {
-    let mut reader = match Reader::open(file) {
-        Ok(reader) => reader,
-        Err(fault) => return print_refusal(rt, fault),
+/// Prints the records that begin before an offset, and the counts where that is the end of the file.
+fn list(rt: &LibcRuntime, file: &[u8], stop: usize) -> io::Result<()> {
+    let Ok(mut reader) = Reader::open(file) else {
+        return Ok(());
     };
     let mut letters = 0usize;
     let mut nodes = 0usize;
-    loop {
-        match reader.next() {
-            Ok(Some((Record::Letter(body), at))) => {
-                print_declared(rt, at, body)?;
-                letters = letters.saturating_add(1);
-            }
-            Ok(Some((node, at))) => {
-                print_node(rt, at, node, nodes)?;
-                nodes = nodes.saturating_add(1);
-            }
-            Ok(None) => break,
-            Err(fault) => return print_refusal(rt, fault),
+    while let Ok(Some((record, at))) = reader.next() {
+        if at >= stop {
+            return Ok(());
         }
+        if let Record::Letter(body) = record {
+            print_declared(rt, at, body)?;
+            letters = letters.saturating_add(1);
+        } else {
+            print_node(rt, at, record, nodes)?;
+            nodes = nodes.saturating_add(1);
+        }
+    }
+    if stop < file.len() {
+        return Ok(());
     }
     let bytes = file.len();
     println!(rt, "{bytes} bytes, {letters} letters, {nodes} nodes")
 }
 
+/// Prints of each node its size, and whether it closes; the last node is the property.
+fn print_sizes(rt: &LibcRuntime, place: &Nodes) -> io::Result<()> {
+    for (n, (size, closes)) in place.sizes().iter().zip(place.closing()).enumerate() {
+        print!(rt, "node {n}: size ")?;
+        if *size > MOST_SIZE {
+            print!(rt, "over {MOST_SIZE}")?;
+        } else {
+            print!(rt, "{size}")?;
+        }
+        println!(rt, "{}", if *closes { ", closes" } else { "" })?;
+    }
+    let property = place.nodes().len().saturating_sub(1);
+    println!(rt, "the property is node {property}")
+}
+
+/// Lists a file and what its check finds.
+fn show(rt: &LibcRuntime, file: &[u8]) -> io::Result<()> {
+    let mut alphabet = Alphabet::new();
+    let mut place = Nodes::new();
+    match read_property(file, &mut alphabet, &mut place) {
+        Ok(()) => {
+            list(rt, file, file.len())?;
+            print_sizes(rt, &place)
+        }
+        Err(fault) => {
+            list(rt, file, fault.report().offset)?;
+            print_refusal(rt, fault)
+        }
+    }
+}
+
 /// Lists the file at a path.
 fn inspect(rt: &LibcRuntime, path: &str) -> io::Result<()> {
     let file = bytes_of(rt, path)?;
-    list(rt, file.as_slice())
+    show(rt, file.as_slice())
 }
 
 /// Lists the file at a path under its name.

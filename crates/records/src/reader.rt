@@ -13,7 +13,7 @@ use crate::record::Record;
 pub const MOST_BYTES: usize = 16_384;
 
 /// The bytes before a record's body: its length and its kind, two bytes each.
-const HEADER_BYTES: usize = 4;
+pub const HEADER_BYTES: usize = 4;
 
 /// Walks the records of a property file, from an offset on.
 #[derive(Drop)]

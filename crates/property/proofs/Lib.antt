@@ -1,0 +1,15 @@
+pub mod Appending
+pub mod Branching
+pub mod Closed
+pub mod Families
+pub mod Filling
+pub mod Judging
+pub mod Lettering
+pub mod Meaning
+pub mod Measuring
+pub mod Naming
+pub mod Numbering
+pub mod SizingMarks
+pub mod SizingNodes
+pub mod SizingSums
+pub mod Soundness

@@ -1,0 +1,12 @@
+pub mod Checks
+pub mod Closing
+pub mod Drafts
+pub mod Faults
+pub mod Meant
+pub mod Nodes
+pub mod Numbered
+pub mod Placed
+pub mod Sized
+pub mod Sizes
+pub mod Sound
+pub mod Traces

@@ -11,6 +11,10 @@ use Rattle.letters.specs.declared.letter.Kind.the-variants.{Sensor, Received, 
 abbrev pub numbers-a-kind : ℕ
 numbers-a-kind = 32
 
+-- one above the largest number that the type of a letter holds
+abbrev pub letter-bound : ℕ
+letter-bound = 256
+
 -- the number of each kind
 abbrev pub kind-number : Kind → ℕ
 kind-number Sensor = 0

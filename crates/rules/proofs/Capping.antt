@@ -16,11 +16,11 @@ use Rattle.rules.specs.Meaning.{Meaning, Dead, Leads, Meant, Laws, Lawful, mos
 use Rattle.rules.specs.Capped.{cap-live, cap-act, cap-end, cap-next, capped-with, capped, Same}
 use Rattle.rules.proofs.Follows.{none-some}
 
-some-cond : (b : Bool) (x : Option ℕ) (r : ℕ) → cond b x None ≡ Some r → (b ≡ true) × (x ≡ Some r)
+pub some-cond : (b : Bool) (x : Option ℕ) (r : ℕ) → cond b x None ≡ Some r → (b ≡ true) × (x ≡ Some r)
 some-cond true x r h = (refl, h)
 some-cond false x r h = absurd (none-some h)
 
-split : (b : Bool) (x y : Option ℕ) (r : ℕ) → cond b x y ≡ Some r → ((b ≡ true) × (x ≡ Some r)) ⊎ ((b ≡ false) × (y ≡ Some r))
+pub split : (b : Bool) (x y : Option ℕ) (r : ℕ) → cond b x y ≡ Some r → ((b ≡ true) × (x ≡ Some r)) ⊎ ((b ≡ false) × (y ≡ Some r))
 split true x y r h = inl (refl, h)
 split false x y r h = inr (refl, h)
 

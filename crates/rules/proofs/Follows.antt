@@ -10,7 +10,7 @@ use Rattle.std.specs.declared.option.Option.{Option}
 use Rattle.std.specs.declared.option.Option.the-variants.{Some, None}
 use Rattle.letters.specs.Letters.{end}
 use Rattle.rules.specs.Meaning.{Meaning, Laws}
-use Rattle.rules.specs.Lists.{and-then, follow, Admitted}
+use Rattle.rules.specs.Lists.{and-then, follow-by, follow, Admitted}
 
 pub none-some : {T : Type 0} {x : T} → None ≡ Some x → ⊥
 none-some h = let z : _≡_ {A = ℕ} 0 1 = cc in omega arith
@@ -23,18 +23,24 @@ pub then-some : (o : Option ℕ) (on : ℕ → Option ℕ) (r : ℕ) → and-the
 then-some None on r h = absurd (none-some h)
 then-some (Some q) on r h = (q, refl, h)
 
+pub by-join : (next : ℕ → ℕ → Option ℕ) (p : ℕ) (xs ys : List ℕ) (q : ℕ) → follow-by next p xs ≡ Some q → follow-by next p (xs ++ ys) ≡ follow-by next q ys
+by-join next p [] ys q h = let e : p ≡ q = cc in ap (λ x. follow-by next x ys) e
+by-join next p (a ∷ xs) ys q h =
+    let t = then-some (next p a) (λ x. follow-by next x xs) q h in
+    ap (λ o. and-then o (λ x. follow-by next x (xs ++ ys))) (t .1) ∙ by-join next (t .0) xs ys q (t .2)
+
+pub by-split : (next : ℕ → ℕ → Option ℕ) (p : ℕ) (xs ys : List ℕ) (r : ℕ) → follow-by next p (xs ++ ys) ≡ Some r → (q : ℕ) × (follow-by next p xs ≡ Some q) × (follow-by next q ys ≡ Some r)
+by-split next p [] ys r h = (p, refl, h)
+by-split next p (a ∷ xs) ys r h =
+    let t = then-some (next p a) (λ x. follow-by next x (xs ++ ys)) r h in
+    let u = by-split next (t .0) xs ys r (t .2) in
+    (u .0, ap (λ o. and-then o (λ x. follow-by next x xs)) (t .1) ∙ u .1, u .2)
+
 pub follow-join : (m : Meaning) (p : ℕ) (xs ys : List ℕ) (q : ℕ) → follow m p xs ≡ Some q → follow m p (xs ++ ys) ≡ follow m q ys
-follow-join m p [] ys q h = let e : p ≡ q = cc in ap (λ x. follow m x ys) e
-follow-join m p (a ∷ xs) ys q h =
-    let t = then-some (m .next p a) (λ x. follow m x xs) q h in
-    ap (λ o. and-then o (λ x. follow m x (xs ++ ys))) (t .1) ∙ follow-join m (t .0) xs ys q (t .2)
+follow-join m = by-join (m .next)
 
 pub follow-split : (m : Meaning) (p : ℕ) (xs ys : List ℕ) (r : ℕ) → follow m p (xs ++ ys) ≡ Some r → (q : ℕ) × (follow m p xs ≡ Some q) × (follow m q ys ≡ Some r)
-follow-split m p [] ys r h = (p, refl, h)
-follow-split m p (a ∷ xs) ys r h =
-    let t = then-some (m .next p a) (λ x. follow m x (xs ++ ys)) r h in
-    let u = follow-split m (t .0) xs ys r (t .2) in
-    (u .0, ap (λ o. and-then o (λ x. follow m x xs)) (t .1) ∙ u .1, u .2)
+follow-split m = by-split (m .next)
 
 pub follow-one : (m : Meaning) (p a q : ℕ) → m .next p a ≡ Some q → follow m p (a ∷ []) ≡ Some q
 follow-one m p a q h = ap (λ o. and-then o (λ x. Some x)) h

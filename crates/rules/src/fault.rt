@@ -14,6 +14,8 @@ pub enum RuleFault {
     Number,
     /// More than `MOST_PLACES` places.
     Places,
+    /// No rows, rows past the memory, or rows that break a law.
+    Rows,
 }
 
 impl RuleFault {
@@ -24,6 +26,7 @@ impl RuleFault {
         match self {
             RuleFault::Number => 16,
             RuleFault::Places => 17,
+            RuleFault::Rows => 18,
         }
     }
 }

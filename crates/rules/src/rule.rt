@@ -4,6 +4,9 @@ ghost use Prim.Native.Nat.{ℕ};
 ghost use Rattle.std.specs.declared.option.Option.{Option};
 use letters::letter::Letter;
 
+/// The most letters that a cycle can have, end left out.
+pub const MOST_SPAN: u32 = 4095;
+
 /// A rule as a machine of places: each letter is admitted or not at a place, and an admitted one leads to a following place.
 pub trait Rule {
     ghost count: { Self → ℕ };

@@ -1,5 +1,5 @@
 ghost use mathlib.Core.Bool.{cond, _&&_};
-ghost use Prim.Native.Nat.{_-_};
+ghost use Prim.Native.Nat.{_-_, _<_};
 ghost use lib.Dec.{eqb, ltb};
 ghost use Rattle.std.specs.declared.option.Option.the-variants.{Some, None};
 ghost use Rattle.letters.specs.Letters.{tick, end};
@@ -10,10 +10,16 @@ use crate::count::CountRule;
 use crate::fault::MOST_PLACES;
 use crate::fault::RuleFault;
 use crate::fault::RuleFaultDebug;
+use crate::fault::RuleFaultPartialEq;
+use crate::rule::MOST_SPAN;
 use crate::rule::Rule;
+use crate::table::NO_ROW;
+use crate::table::Table;
+use crate::table::TableRule;
 use letters::alphabet::Alphabet;
 use letters::letter::END;
 use letters::letter::Letter;
+use letters::letter::NUMBERS_A_KIND;
 use letters::letter::TICK;
 use std::test::*;
 
@@ -134,4 +140,137 @@ fn a_cap_keeps_room_for_what_is_owed() -> Result<(), Fail> {
     check_eq(two.owed_at(after), 1)?;
     check_eq(two.lead_at(after), Some(TICK))?;
     check_eq(two.following(after, END), None)
+}
+
+/// The rows of no tick or two in a cycle: tick, end, owed, span, lead; the lead is read in the second row alone.
+const PAIRED_ROWS: [u16; 15] = [
+    1,
+    0,
+    0,
+    2,
+    999, //
+    2,
+    NO_ROW,
+    1,
+    1,
+    TICK as u16, //
+    NO_ROW,
+    0,
+    0,
+    0,
+    NO_ROW,
+];
+
+/// The refusal of the paired rows with another number in one place, if there is one.
+fn refused_with(index: usize, number: u16) -> Option<RuleFault>
+    requires { ⌜ index < 15 ⌝ }
+{
+    let mut memory = PAIRED_ROWS;
+    memory[index] = number;
+    refused(&Alphabet::new(), &memory, 3)
+}
+
+fn refused<'a>(alphabet: &'a Alphabet, memory: &'a [u16], rows: usize) -> Option<RuleFault> {
+    match Table::new(alphabet, memory, rows) {
+        Ok(_) => None,
+        Err(fault) => Some(fault),
+    }
+}
+
+#[test]
+fn a_table_reads_its_rows() -> Result<(), Fail> {
+    let alphabet = Alphabet::new();
+    let rule = Table::new(&alphabet, &PAIRED_ROWS, 3)?;
+    check_eq(rule.place_count(), 3)?;
+    check_eq(rule.most_owed(), 1)?;
+    check_eq(rule.following(rule.start_place(), TICK), Some(1))?;
+    check_eq(rule.lead_at(1), Some(TICK))?;
+    check_eq(rule.following(1, END), None)?;
+    check_eq(rule.following(2, END), Some(0))?;
+    check_eq(rule.lead_at(2), None)?;
+    check_eq(rule.following(3, END), None)?;
+    check(matches!(Cap::new(rule, 0), Err(RuleFault::Number)))
+}
+
+#[test]
+fn a_table_lies_in_its_memory() -> Result<(), Fail> {
+    let alphabet = Alphabet::new();
+    check_eq(refused(&alphabet, &PAIRED_ROWS, 0), Some(RuleFault::Rows))?;
+    check_eq(refused(&alphabet, &PAIRED_ROWS, 3), None)?;
+    check_eq(
+        refused(&alphabet, &PAIRED_ROWS[0..14], 3),
+        Some(RuleFault::Rows),
+    )?;
+    check_eq(
+        refused(&alphabet, &[], MOST_PLACES as usize),
+        Some(RuleFault::Rows),
+    )?;
+    check_eq(
+        refused(&alphabet, &[], MOST_PLACES as usize + 1),
+        Some(RuleFault::Places),
+    )
+}
+
+#[test]
+fn a_table_follows_its_own_rows() -> Result<(), Fail> {
+    check_eq(refused_with(0, 3), Some(RuleFault::Rows))?;
+    check_eq(refused_with(11, 3), Some(RuleFault::Rows))?;
+    check_eq(refused_with(0, NO_ROW), None)
+}
+
+#[test]
+fn a_table_owes_exactly_where_the_end_is_not_admitted() -> Result<(), Fail> {
+    check_eq(refused_with(6, 0), Some(RuleFault::Rows))?;
+    check_eq(refused_with(11, NO_ROW), Some(RuleFault::Rows))
+}
+
+#[test]
+fn a_table_leads_to_the_end() -> Result<(), Fail> {
+    check_eq(refused_with(5, NO_ROW), Some(RuleFault::Rows))?;
+    check_eq(refused_with(7, 2), Some(RuleFault::Rows))?;
+    check_eq(refused_with(9, END as u16), Some(RuleFault::Rows))?;
+    check_eq(refused_with(9, TICK as u16 + 256), Some(RuleFault::Rows))
+}
+
+#[test]
+fn a_table_has_falling_spans_up_to_the_limit() -> Result<(), Fail> {
+    check_eq(refused_with(3, 1), Some(RuleFault::Rows))?;
+    check_eq(refused_with(3, MOST_SPAN as u16), None)?;
+    check_eq(refused_with(3, MOST_SPAN as u16 + 1), Some(RuleFault::Rows))
+}
+
+#[test]
+fn a_table_loses_no_more_than_one_owed_to_a_letter() -> Result<(), Fail> {
+    let mut alphabet = Alphabet::new();
+    check(alphabet.declare(&[3 * NUMBERS_A_KIND]).is_ok())?;
+    let lead = TICK as u16;
+    let mut memory = [
+        NO_ROW,
+        1,
+        0,
+        0,
+        3,
+        0, //
+        NO_ROW,
+        2,
+        NO_ROW,
+        2,
+        2,
+        lead, //
+        NO_ROW,
+        3,
+        NO_ROW,
+        1,
+        1,
+        lead, //
+        NO_ROW,
+        NO_ROW,
+        0,
+        0,
+        0,
+        0,
+    ];
+    check_eq(refused(&alphabet, &memory, 4), None)?;
+    memory[6] = 3;
+    check_eq(refused(&alphabet, &memory, 4), Some(RuleFault::Rows))
 }

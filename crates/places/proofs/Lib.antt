@@ -1,0 +1,17 @@
+pub mod Alls
+pub mod Beginnings
+pub mod Boths
+pub mod Branches
+pub mod ByKind
+pub mod Choices
+pub mod Closings
+pub mod Equations
+pub mod Falling
+pub mod Families
+pub mod Laps
+pub mod Letters
+pub mod Lowering
+pub mod Sequences
+pub mod Shown
+pub mod Sizes
+pub mod Traces

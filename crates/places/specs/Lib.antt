@@ -1,0 +1,5 @@
+pub mod Laps
+pub mod Loops
+pub mod Owing
+pub mod Theorems
+pub mod Walks

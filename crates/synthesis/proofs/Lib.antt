@@ -1,0 +1,10 @@
+pub mod Laws
+pub mod Letters
+pub mod Marking
+pub mod Numbering
+pub mod Owning
+pub mod Paths
+pub mod Steps
+pub mod Telling
+pub mod Ways
+pub mod Weighing

@@ -1,0 +1,9 @@
+pub mod Fillable
+pub mod Laws
+pub mod Marks
+pub mod Numbers
+pub mod Own
+pub mod Rows
+pub mod Table
+pub mod Weighed
+pub mod Weights

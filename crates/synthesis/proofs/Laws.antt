@@ -13,12 +13,13 @@ use Rattle.std.proofs.shelf.Tests.{eq-eqb, ne-eqb}
 use Rattle.letters.specs.Letters.{end, insertable}
 use Rattle.letters.specs.Alphabets.{position}
 use Rattle.rules.specs.Meaning.{most-span}
+use Rattle.rules.specs.Tabled.{row-named}
 use Rattle.rules.proofs.Follows.{then-some, none-some}
 use Rattle.places.specs.Loops.{Loop}
 use Rattle.places.specs.Owing.{Loop-way}
 use Rattle.synthesis.specs.Fillable.{Fillable}
 use Rattle.synthesis.specs.Laws.{Row-leads, Row-laws, Rows-are-lawful}
-use Rattle.synthesis.specs.Rows.{column, row-owed, row-span, row-lead, named-row, next-row}
+use Rattle.synthesis.specs.Rows.{column, row-owed, row-span, row-lead, next-row}
 use Rattle.synthesis.specs.Table.{Tells}
 use Rattle.synthesis.proofs.Letters.{some-among}
 use Rattle.synthesis.proofs.Paths.{step-on}
@@ -67,7 +68,7 @@ module _ (r : Loop) (letters table : List ℕ) (count : ℕ) (fillable : Fillabl
   law-leads : (i : ℕ) → i < count → 0 < owed i → (k : ℕ) × Row-leads letters table i k
   law-leads i h d =
       let x = leads r letters table count a i h d in
-      let o = then-some (position letters (lead i)) (λ j. named-row (column letters table i j)) (x .0) (x .2) in
+      let o = then-some (position letters (lead i)) (λ j. row-named (column letters table i j)) (x .0) (x .2) in
       (x .0, record { can = x .1; lettered = some-among letters (lead i) (o .0) (o .1); goes = x .2; less = x .3 })
 
   slow : (i l k : ℕ) → i < count → insertable l ≡ true → f i l ≡ Some k → owed i ≤ owed k + 1

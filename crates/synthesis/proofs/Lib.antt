@@ -4,6 +4,7 @@ pub mod Marking
 pub mod Numbering
 pub mod Owning
 pub mod Paths
+pub mod Ruling
 pub mod Steps
 pub mod Telling
 pub mod Ways

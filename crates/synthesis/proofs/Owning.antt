@@ -7,12 +7,12 @@ use Rattle.std.specs.declared.option.Option.{Option}
 use Rattle.std.specs.declared.option.Option.the-variants.{Some}
 use Rattle.letters.specs.Letters.{end}
 use Rattle.rules.specs.Lists.{follow-by}
+use Rattle.rules.proofs.Follows.{by-join}
 use Rattle.places.specs.Loops.{Loop, Live}
 use Rattle.places.specs.Owing.{Loop-owed, Loop-span}
 use Rattle.synthesis.specs.Own.{Admits-from, Least-owed, Longest-span, Lowest-lead, Own, Tables-say-so}
 use Rattle.synthesis.specs.Rows.{row-owed, row-span, row-lead, next-row}
 use Rattle.synthesis.specs.Table.{Tells}
-use Rattle.synthesis.proofs.Paths.{follow-on}
 use Rattle.synthesis.proofs.Steps.{step, leads}
 
 module _ (r : Loop) (letters table : List ℕ) (count : ℕ) (a : Tells r letters table count) where
@@ -30,15 +30,15 @@ module _ (r : Loop) (letters table : List ℕ) (count : ℕ) (a : Tells r letter
   to-place i h u x =
       let t = a .reached i h in
       let there = a .same-place (t .0) i (t .1) .1 in
-      let y = a .admitted (t .0 ++ u) .0 (x .0, follow-on f 0 (t .0) u i (t .1) ∙ x .1) in
-      (y .0, sym (follow-on (r .next) (r .boundary) (t .0) u (place i) there) ∙ y .1, y .2)
+      let y = a .admitted (t .0 ++ u) .0 (x .0, by-join f 0 (t .0) u i (t .1) ∙ x .1) in
+      (y .0, sym (by-join (r .next) (r .boundary) (t .0) u (place i) there) ∙ y .1, y .2)
 
   to-row : (i : ℕ) → i < count → (u : List ℕ) (q : ℕ) → follow-by (r .next) (place i) u ≡ Some q → Live r q → Admits-from f i u
   to-row i h u q e v =
       let t = a .reached i h in
       let there = a .same-place (t .0) i (t .1) .1 in
-      let y = a .admitted (t .0 ++ u) .1 (q, follow-on (r .next) (r .boundary) (t .0) u (place i) there ∙ e, v) in
-      (y .0, sym (follow-on f 0 (t .0) u i (t .1)) ∙ y .1)
+      let y = a .admitted (t .0 ++ u) .1 (q, by-join (r .next) (r .boundary) (t .0) u (place i) there ∙ e, v) in
+      (y .0, sym (by-join f 0 (t .0) u i (t .1)) ∙ y .1)
 
   least-owed : (i : ℕ) → i < count → (n : ℕ) → Loop-owed r (place i) n → Least-owed f i n
   least-owed i h n o =

@@ -8,7 +8,7 @@ use Rattle.std.specs.declared.option.Option.{Option}
 use Rattle.std.specs.declared.option.Option.the-variants.{Some, None}
 use Rattle.std.proofs.shelf.Tests.{false≢true, true≢false}
 use Rattle.rules.specs.Lists.{and-then, follow-by}
-use Rattle.rules.proofs.Follows.{then-some}
+use Rattle.rules.proofs.Follows.{then-some, by-join}
 use Rattle.places.specs.Loops.{Loop, Reached, Live}
 use Rattle.synthesis.specs.Marks.{Marked, Leads-on, Onward}
 
@@ -22,18 +22,12 @@ module _ (f : ℕ → ℕ → Option ℕ) where
   pub step-on : (p l k : ℕ) (t : List ℕ) → f p l ≡ Some k → follow-by f p (l ∷ t) ≡ follow-by f k t
   step-on p l k t e = ap (λ o. and-then o (λ x. follow-by f x t)) e
 
-  pub follow-on : (p : ℕ) (t u : List ℕ) (q : ℕ) → follow-by f p t ≡ Some q → follow-by f p (t ++ u) ≡ follow-by f q u
-  follow-on p [] u q e = ap (λ x. follow-by f x u) (some-same p q e)
-  follow-on p (l ∷ t) u q e =
-      let s = first-step p l t q e in
-      step-on p l (s .0) (t ++ u) (s .1) ∙ follow-on (s .0) t u q (s .2)
-
   -- one letter more
   pub last-step : (p : ℕ) (t : List ℕ) (q l k : ℕ) → follow-by f p t ≡ Some q → f q l ≡ Some k → follow-by f p (t ++ l ∷ []) ≡ Some k
-  last-step p t q l k e g = follow-on p t (l ∷ []) q e ∙ step-on q l k [] g
+  last-step p t q l k e g = by-join f p t (l ∷ []) q e ∙ step-on q l k [] g
 
   pub last-back : (p : ℕ) (t : List ℕ) (q l k : ℕ) → follow-by f p t ≡ Some q → follow-by f p (t ++ l ∷ []) ≡ Some k → f q l ≡ Some k
-  last-back p t q l k e g = let s = first-step q l [] k (sym (follow-on p t (l ∷ []) q e) ∙ g) in s .1 ∙ s .2
+  last-back p t q l k e g = let s = first-step q l [] k (sym (by-join f p t (l ∷ []) q e) ∙ g) in s .1 ∙ s .2
 
 module _ (r : Loop) where
   pub live-before : (p l q : ℕ) → r .next p l ≡ Some q → Live r q → Live r p
@@ -41,7 +35,7 @@ module _ (r : Loop) where
 
   -- a list that leads to a live place starts at one
   pub live-back : (u : List ℕ) (p q : ℕ) → follow-by (r .next) p u ≡ Some q → Live r q → Live r p
-  live-back u p q e v = (u ++ v .0, follow-on (r .next) p u (v .0) q e ∙ v .1)
+  live-back u p q e v = (u ++ v .0, by-join (r .next) p u (v .0) q e ∙ v .1)
 
   pub reached-after : (p l q : ℕ) → r .next p l ≡ Some q → Reached r p → Reached r q
   reached-after p l q e t = (t .0 ++ l ∷ [], last-step (r .next) (r .boundary) (t .0) p l q (t .1) e)

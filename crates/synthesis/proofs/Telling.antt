@@ -12,18 +12,19 @@ use Rattle.std.proofs.shelf.Bits.{mul-add-lt, div-mul-add, mod-mul-add}
 use Rattle.std.proofs.shelf.Tests.{cases-bool, eqb-false, ne-eqb, cond-true, cond-false}
 use Rattle.letters.specs.Alphabets.{position}
 use Rattle.rules.specs.Lists.{and-then, follow-by}
+use Rattle.rules.specs.Tabled.{no-row, width, row-named}
 use Rattle.rules.proofs.Follows.{none-some, then-some}
 use Rattle.places.specs.Loops.{Loop, Live, Leads-to-live}
 use Rattle.synthesis.specs.Fillable.{Fillable}
 use Rattle.synthesis.specs.Marks.{Marked}
 use Rattle.synthesis.specs.Numbers.{Rows}
-use Rattle.synthesis.specs.Rows.{no-row, width, column, named-row, next-row}
+use Rattle.synthesis.specs.Rows.{column, next-row}
 use Rattle.synthesis.specs.Table.{Entry, Written, Tells}
 use Rattle.synthesis.proofs.Letters.{position-at, position-some}
 use Rattle.synthesis.proofs.Paths.{some-same, first-step, step-on, live-back}
 use Rattle.synthesis.proofs.Marking.{marked-within}
 
-named-some : (v k : ℕ) → named-row v ≡ Some k → (v ≡ no-row → ⊥) × (v ≡ k)
+named-some : (v k : ℕ) → row-named v ≡ Some k → (v ≡ no-row → ⊥) × (v ≡ k)
 named-some v k e = elim (cases-bool (eqb v no-row)) [
   | inl t ↦ absurd (none-some (sym (cond-true (eqb v no-row) None (Some v) t) ∙ e))
   | inr f ↦ (eqb-false v no-row f, some-same v k (sym (cond-false (eqb v no-row) None (Some v) f) ∙ e))
@@ -52,7 +53,7 @@ module _ (r : Loop) (letters rows order : List ℕ) (count : ℕ) (fair : Fillab
 
   step-place : (i l k : ℕ) → i < count → next-row letters table i l ≡ Some k → (k < count) × (r .next (place i) l ≡ Some (place k))
   step-place i l k h e =
-      let o = then-some (position letters l) (λ j. named-row (column letters table i j)) k e in
+      let o = then-some (position letters l) (λ j. row-named (column letters table i j)) k e in
       let j = o .0 in
       let x = position-at letters l j (o .1) in
       let v = column letters table i j in
@@ -75,7 +76,7 @@ module _ (r : Loop) (letters rows order : List ℕ) (count : ℕ) (fair : Fillab
       let k = column letters table i j in
       let d : k ≡ no-row → ⊥ = λ s. omega (arith, rs .within q m, rs .few, fair .small) in
       let z₁ : k ≡ getD rows q 0 - 1 = omega arith in
-      let goes = ap (λ o. and-then o (λ n. named-row (column letters table i n))) (f .1) ∙ cond-false (eqb k no-row) None (Some k) (ne-eqb k no-row d) in
+      let goes = ap (λ o. and-then o (λ n. row-named (column letters table i n))) (f .1) ∙ cond-false (eqb k no-row) None (Some k) (ne-eqb k no-row d) in
       (k, goes, ap (λ (n : ℕ). getD order n 0) z₁ ∙ rs .back q m, omega (arith, rs .within q m))
 
   list-place : (t : List ℕ) (i k : ℕ) → i < count → follow-by (next-row letters table) i t ≡ Some k → (k < count) × (follow-by (r .next) (place i) t ≡ Some (place k))

@@ -12,12 +12,12 @@ use Rattle.std.specs.declared.option.Option.the-variants.{Some}
 use Rattle.std.proofs.shelf.Tests.{cases-eq, cases-lt}
 use Rattle.letters.specs.Letters.{end, insertable}
 use Rattle.rules.specs.Lists.{follow-by, Endless}
+use Rattle.rules.specs.Tabled.{no-row}
 use Rattle.places.specs.Loops.{Loop, Live}
 use Rattle.places.specs.Owing.{Loop-way, Loop-owed, Loop-span}
 use Rattle.synthesis.specs.Fillable.{Fillable}
 use Rattle.synthesis.specs.Marks.{Marked, Covers}
 use Rattle.synthesis.specs.Numbers.{Rowed}
-use Rattle.synthesis.specs.Rows.{no-row}
 use Rattle.synthesis.specs.Weights.{Owes, Spans, Inserts, Goes-on, Lead}
 use Rattle.synthesis.proofs.Letters.{among-at, ascends, not-end}
 use Rattle.synthesis.proofs.Paths.{first-step, step-on, live-back}

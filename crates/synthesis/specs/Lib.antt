@@ -4,6 +4,7 @@ pub mod Marks
 pub mod Numbers
 pub mod Own
 pub mod Rows
+pub mod Ruled
 pub mod Table
 pub mod Weighed
 pub mod Weights

@@ -8,8 +8,9 @@ use Rattle.std.specs.declared.option.Option.{Option}
 use Rattle.std.specs.declared.option.Option.the-variants.{Some}
 use Rattle.letters.specs.Letters.{end, insertable}
 use Rattle.rules.specs.Lists.{follow-by, Insertable, Endless}
+use Rattle.rules.specs.Tabled.{no-row}
 use Rattle.places.specs.Loops.{Loop}
-use Rattle.synthesis.specs.Rows.{no-row, row-owed, row-span, row-lead, next-row}
+use Rattle.synthesis.specs.Rows.{row-owed, row-span, row-lead, next-row}
 use Rattle.synthesis.specs.Table.{Tells}
 
 -- the list t is admitted from the row i

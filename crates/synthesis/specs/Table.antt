@@ -7,11 +7,12 @@ use lib.ListN.{length, getD}
 use Rattle.std.specs.declared.option.Option.{Option}
 use Rattle.std.specs.declared.option.Option.the-variants.{Some, None}
 use Rattle.rules.specs.Lists.{follow-by}
+use Rattle.rules.specs.Tabled.{no-row, width}
 use Rattle.places.specs.Loops.{Loop, Leads-to-live}
 use Rattle.places.specs.Owing.{Loop-owed, Loop-span}
 use Rattle.synthesis.specs.Marks.{Marked}
 use Rattle.synthesis.specs.Weights.{Lead, Stranded}
-use Rattle.synthesis.specs.Rows.{no-row, width, row-owed, row-span, row-lead, next-row}
+use Rattle.synthesis.specs.Rows.{row-owed, row-span, row-lead, next-row}
 
 -- v is the row that the letter l leads to from p, or no row
 pub record Cell (r : Loop) (rows : List ℕ) (p l v : ℕ) : Type 0 where

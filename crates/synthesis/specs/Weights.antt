@@ -6,10 +6,10 @@ use Prim.Native.Nat.{ℕ, suc, _<_, _≤_}
 use lib.ListN.{length, getD}
 use Rattle.std.specs.declared.option.Option.the-variants.{Some}
 use Rattle.letters.specs.Letters.{end, insertable}
+use Rattle.rules.specs.Tabled.{no-row}
 use Rattle.places.specs.Loops.{Loop, Reached, Live}
 use Rattle.places.specs.Owing.{Loop-way, Loop-owed, Loop-span}
 use Rattle.synthesis.specs.Marks.{Marked}
-use Rattle.synthesis.specs.Rows.{no-row}
 
 -- what each place below i that has a row owes
 pub record Owes (r : Loop) (rows owed : List ℕ) (i : ℕ) : Type 0 where

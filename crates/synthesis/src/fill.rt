@@ -1,12 +1,11 @@
 ghost use mathlib.Core.Path.{_≡_};
 ghost use Prim.Native.Nat.{_+_, _*_, _^_, _<_, _≤_};
 ghost use lib.ListN.{length};
+ghost use Rattle.rules.specs.Tabled.{width};
 ghost use Rattle.synthesis.specs.Fillable.{Fillable};
 ghost use Rattle.synthesis.specs.Marks.{Marked, Covers};
-ghost use Rattle.synthesis.specs.Rows.{width};
 ghost use Rattle.synthesis.specs.Table.{All-are, Cell, Entry, Written, Tells, Filled};
 ghost use Rattle.synthesis.specs.Weighed.{All-weighed};
-use crate::rows::NO_ROW;
 use crate::rows::clear;
 use crate::rows::mark_live;
 use crate::rows::number;
@@ -15,6 +14,7 @@ use crate::weights::lead_at;
 use crate::weights::weigh;
 use letters::letter::Letter;
 use places::places::Places;
+use rules::table::NO_ROW;
 
 /// The columns of a row after the letters' cells: owed, span and lead.
 const WEIGHTS: usize = 3;

@@ -10,9 +10,6 @@ ghost use Rattle.synthesis.specs.Table.{All-are};
 use letters::letter::Letter;
 use places::places::Places;
 
-/// Stands in a cell whose letter is not admitted, for the lead where nothing is owed, and past the last row.
-pub(crate) const NO_ROW: u16 = 65_535;
-
 /// Writes a value everywhere.
 pub(crate) fn clear(memory: &mut [u16], value: u16)
     ensures { λ _. ⌜ All-are value (now (memory .exit)) ⌝ }

@@ -3,18 +3,18 @@ ghost use mathlib.Core.Bool.{true, false};
 ghost use mathlib.Core.List.{List};
 ghost use Prim.Native.Nat.{ℕ, _+_, _<_, _≤_};
 ghost use lib.ListN.{length, getD};
+ghost use Rattle.rules.specs.Tabled.{no-row};
 ghost use Rattle.places.specs.Owing.{Loop-way, Loop-owed, Loop-span};
 ghost use Rattle.synthesis.specs.Fillable.{Fillable};
 ghost use Rattle.synthesis.specs.Marks.{Marked, Covers};
 ghost use Rattle.synthesis.specs.Numbers.{Rowed};
-ghost use Rattle.synthesis.specs.Rows.{no-row};
 ghost use Rattle.synthesis.specs.Weights.{Owes, Spans, Inserts, Goes-on, Lead, Stranded};
-use crate::rows::NO_ROW;
 use crate::rows::onward;
 use letters::letter::END;
 use letters::letter::Letter;
 use letters::letter::may_insert;
 use places::places::Places;
+use rules::table::NO_ROW;
 
 /// The smaller of `least` and what the place owes by way of the letter.
 fn owed_by<P: Places>(

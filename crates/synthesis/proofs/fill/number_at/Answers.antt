@@ -1,7 +1,7 @@
 use native.Mathlib.Omega.{arith}
 use Prim.Native.Nat.{_/_}
 use Rattle.std.proofs.shelf.Bits.{div-below, mod-below}
-use Rattle.synthesis.specs.Rows.{width}
+use Rattle.rules.specs.Tabled.{width}
 use Rattle.synthesis.proofs.fill.number_at.Needs as need
 
 pub index-weighed-index : need.index-weighed-index

@@ -1,7 +1,7 @@
 use native.Mathlib.Omega.{arith}
 use Prim.Native.Nat.{_<_}
-use Rattle.synthesis.specs.Rows.{no-row}
 use Rattle.std.proofs.shelf.Tests.{false≢true}
+use Rattle.rules.specs.Tabled.{no-row}
 use Rattle.synthesis.specs.Marks.{Marked}
 use Rattle.synthesis.proofs.Weighing.{owes-skip, owes-more, spans-skip, spans-more}
 use Rattle.synthesis.proofs.weights.weigh.Needs as need

@@ -3,9 +3,7 @@ use Rattle.std.proofs.Common.{◌≡◌, ℕ, suc, ◌+◌, ◌*◌, ◌/◌, �
 use native.Mathlib.Nat.{div-add-mod}
 use lib.Arith.{digits_lt, digits_div, digits_mod}
 use Rattle.std.proofs.lemmas.Bool.{cases_lt}
-use Rattle.places.specs.declared.outcome.Outcome.{Outcome}
-use Rattle.places.specs.declared.outcome.Outcome.TheVariants.{Dead, Done, At}
-use Rattle.places.specs.Walks.{Walk, run, both_walk, meet}
+use Rattle.places.specs.Walks.{Outcome, Dead, Done, At, Walk, run, both_walk, meet}
 use Rattle.places.proofs.Falling.{Below, Falls, below_more, dead≢done, at≢done, run_dead}
 
 meet_below : (i j k : ℕ) (o r : Outcome) → Below i o → Below j r → Below (i * k + j) (meet k o r)

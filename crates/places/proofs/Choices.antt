@@ -3,9 +3,7 @@ use Rattle.std.proofs.Common.{◌≡◌, ℕ, zero, suc, ◌+◌, ◌-◌, ◌<�
 use native.Mathlib.Decide.{le_ind}
 use Rattle.std.proofs.lemmas.Bool.{cases_lt, cond-true, cond-false, le-leb, lt-leb}
 use Rattle.property.specs.Sizes.{total}
-use Rattle.places.specs.declared.outcome.Outcome.{Outcome}
-use Rattle.places.specs.declared.outcome.Outcome.TheVariants.{Dead, Done, At}
-use Rattle.places.specs.Walks.{Walk, run, Member, Branches, Whole, places, shift, target, offset, locate, enter, enter_member, enter_target, step_member, step_at, choice_walk}
+use Rattle.places.specs.Walks.{Outcome, Dead, Done, At, Walk, run, Member, Branches, Whole, places, shift, target, offset, locate, enter, enter_member, enter_target, step_member, step_at, choice_walk}
 use Rattle.places.proofs.Falling.{Below, Falls, below_more}
 
 module _ (is_member : ℕ → Bool) (member : ℕ → Member) where

@@ -1,8 +1,6 @@
 -- A walk whose every step leads to a lower place.
 use Rattle.std.proofs.Common.{◌≡◌, ℕ, ◌<◌, ◌≤◌, List, [], ◌∷◌, ◌++◌, sym, refl, arith}
-use Rattle.places.specs.declared.outcome.Outcome.{Outcome}
-use Rattle.places.specs.declared.outcome.Outcome.TheVariants.{Dead, Done, At}
-use Rattle.places.specs.Walks.{Walk, run}
+use Rattle.places.specs.Walks.{Outcome, Dead, Done, At, Walk, run}
 
 abbrev pub Below : ℕ → Outcome → Type 0
 Below k Dead = Unit {0}

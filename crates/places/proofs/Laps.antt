@@ -6,9 +6,7 @@ use Rattle.rules.specs.Lists.{and_then, follow_by}
 use Rattle.rules.proofs.Follows.{none_some, then_some, by_join}
 use Rattle.places.specs.Laps.{again, lap_from, lap_loop}
 use Rattle.places.specs.Loops.{Loop}
-use Rattle.places.specs.declared.outcome.Outcome.{Outcome}
-use Rattle.places.specs.declared.outcome.Outcome.TheVariants.{Dead, Done, At}
-use Rattle.places.specs.Walks.{Walk, run}
+use Rattle.places.specs.Walks.{Outcome, Dead, Done, At, Walk, run}
 use Rattle.places.proofs.Falling.{Below, Falls, below_more, dead≢done, at≢done, run_dead}
 use Rattle.places.proofs.Traces.{Tells}
 

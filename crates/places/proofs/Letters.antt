@@ -8,9 +8,7 @@ use Rattle.property.specs.Sound.{Sound}
 use Rattle.property.proofs.Numbering.{from_earlier}
 use Rattle.places.specs.Laps.{again, lap_from, pair, still, loop, loop_by}
 use Rattle.places.specs.Loops.{Loop}
-use Rattle.places.specs.declared.outcome.Outcome.{Outcome}
-use Rattle.places.specs.declared.outcome.Outcome.TheVariants.{Dead, Done, At}
-use Rattle.places.specs.Walks.{Walk, then_second, meet, shift, Member, Branches, Whole, offset, locate, enter_target, step_member, member_of, nothing_walk, sequence_walk, both_walk, walk, walk_by}
+use Rattle.places.specs.Walks.{Outcome, Dead, Done, At, Walk, then_second, meet, shift, Member, Branches, Whole, offset, locate, enter_target, step_member, member_of, nothing_walk, sequence_walk, both_walk, walk, walk_by}
 use Rattle.places.proofs.Branches.{target_none, sound_as}
 use Rattle.places.proofs.Equations.{before_all, walk_is, loop_is}
 use Rattle.places.proofs.Traces.{choice_or_whole, branches_choice, whole_not_branches}

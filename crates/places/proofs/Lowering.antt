@@ -10,9 +10,7 @@ use Rattle.property.proofs.Numbering.{before_lt, from_earlier}
 use Rattle.rules.proofs.Follows.{none_some}
 use Rattle.places.specs.Laps.{lap_from, all_loop, still, loop, loop_by}
 use Rattle.places.specs.Loops.{Loop, Reached}
-use Rattle.places.specs.declared.outcome.Outcome.{Outcome}
-use Rattle.places.specs.declared.outcome.Outcome.TheVariants.{Dead, Done, At}
-use Rattle.places.specs.Walks.{Walk}
+use Rattle.places.specs.Walks.{Outcome, Dead, Done, At, Walk}
 use Rattle.places.proofs.Alls.{pair_some, next_pair, follow_pair}
 use Rattle.places.proofs.Beginnings.{loop_told}
 use Rattle.places.proofs.Branches.{sound_at}

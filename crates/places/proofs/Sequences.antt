@@ -1,9 +1,7 @@
 -- The walk of a Sequence goes through the first's places, then the second's.
 use Rattle.std.proofs.Common.{◌≡◌, ℕ, ◌+◌, ◌-◌, ◌<◌, ◌≤◌, ltb, ◌⊎◌, List, [], ◌∷◌, ◌++◌, sym, refl, ap, ◌∙◌, subst, inl, inr, arith}
 use Rattle.std.proofs.lemmas.Bool.{cases_lt, cond-true, cond-false, lt-ltb, le-ltb}
-use Rattle.places.specs.declared.outcome.Outcome.{Outcome}
-use Rattle.places.specs.declared.outcome.Outcome.TheVariants.{Dead, Done, At}
-use Rattle.places.specs.Walks.{Walk, run, sequence_walk, then_second}
+use Rattle.places.specs.Walks.{Outcome, Dead, Done, At, Walk, run, sequence_walk, then_second}
 use Rattle.places.proofs.Falling.{Below, Falls, below_more, dead≢done, at≢done, run_dead}
 
 -- t is a trace of the first walk, from o, joined to one of the second

@@ -8,9 +8,7 @@ use Rattle.property.specs.Sound.{SoundNode, Sound}
 use Rattle.property.proofs.Numbering.{before_lt, from_earlier}
 use Rattle.places.specs.Laps.{lap_from, still, loop, loop_by}
 use Rattle.places.specs.Loops.{Loop}
-use Rattle.places.specs.declared.outcome.Outcome.{Outcome}
-use Rattle.places.specs.declared.outcome.Outcome.TheVariants.{Dead, Done, At}
-use Rattle.places.specs.Walks.{Walk, places, member_of, nothing_walk, walk, walk_by}
+use Rattle.places.specs.Walks.{Outcome, Dead, Done, At, Walk, places, member_of, nothing_walk, walk, walk_by}
 use Rattle.places.proofs.Branches.{sound_at}
 use Rattle.places.proofs.Equations.{walk_is, loop_is, size_is}
 use Rattle.places.proofs.Families.{member_plain, member_earlier}

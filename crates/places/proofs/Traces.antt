@@ -7,9 +7,7 @@ use Rattle.property.specs.Sizes.{itself, in_family}
 use Rattle.property.specs.Sound.{PlainEarlier, SoundNode, Sound}
 use Rattle.property.specs.Traces.{Trace, nothing, choice, sequence, both}
 use Rattle.property.proofs.Numbering.{before_lt, from_earlier}
-use Rattle.places.specs.declared.outcome.Outcome.{Outcome}
-use Rattle.places.specs.declared.outcome.Outcome.TheVariants.{Dead, Done, At}
-use Rattle.places.specs.Walks.{Walk, run, Ends, nothing_walk, sequence_walk, both_walk, choice_walk, Member, Branches, Whole, shift, target, offset, enter, enter_member, enter_target, member_of, walk, walk_by}
+use Rattle.places.specs.Walks.{Outcome, Dead, Done, At, Walk, run, Ends, nothing_walk, sequence_walk, both_walk, choice_walk, Member, Branches, Whole, shift, target, offset, enter, enter_member, enter_target, member_of, walk, walk_by}
 use Rattle.places.proofs.Boths.{both_ends, ends_both, both_falls}
 use Rattle.places.proofs.Branches.{target_branch, branch_target, sound_at, sound_as, branch_earlier}
 use Rattle.places.proofs.ByKind.{means}

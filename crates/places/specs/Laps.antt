@@ -3,9 +3,7 @@ use Rattle.std.specs.Prelude.{ℕ, ◌+◌, ◌*◌, ◌/◌, ◌%◌, max, List
 use Rattle.property.specs.Nodes.{Node, Nothing, Choice, Sequence, Both, Lap, All, node}
 use Rattle.property.specs.Numbered.{by_number}
 use Rattle.places.specs.Loops.{Loop}
-use Rattle.places.specs.declared.outcome.Outcome.{Outcome}
-use Rattle.places.specs.declared.outcome.Outcome.TheVariants.{Dead, Done, At}
-use Rattle.places.specs.Walks.{Walk, walk}
+use Rattle.places.specs.Walks.{Outcome, Dead, Done, At, Walk, walk}
 
 -- where an outcome of the walk leads in a lap from the boundary s: a trace comes back to it
 abbrev pub again : ℕ → Outcome → Option ℕ

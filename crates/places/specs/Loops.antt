@@ -4,6 +4,10 @@ use Rattle.letters.specs.Letters.{end}
 use Rattle.letters.specs.Alphabets.{among}
 use Rattle.rules.specs.Lists.{follow_by}
 
+-- the most places that a table is made for
+abbrev pub most_size : ℕ
+most_size = 1024
+
 pub record Loop : Type 0 where
   -- how many places there are, numbered from 0
   pub size : ℕ

@@ -1,3 +1,3 @@
 //! The places of a property: where a list of letters leads.
-pub mod outcome;
+pub mod places;
 pub mod theorems;

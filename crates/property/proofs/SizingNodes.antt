@@ -1,18 +1,27 @@
 -- The size of a program's node, by its kind, from the sizes kept of the earlier ones.
-use Rattle.std.proofs.Common.{◌≡◌, ℕ, suc, ◌+◌, ◌*◌, ◌<◌, max, Bool, true, false, cond, ◌&&◌, ◌||◌, eqb, ltb, ◌⊎◌, List, [], ◌∷◌, length, get_or, set, sym, refl, ap, ◌∙◌, subst, ap₂, inl, inr, add-one, arith, get_or-set_other, get_or-set_same}
+use Rattle.std.proofs.Common.{◌≡◌, ℕ, suc, ◌+◌, ◌*◌, ◌<◌, ◌≤◌, max, Bool, true, false, cond, ◌&&◌, ◌||◌, eqb, ltb, ◌⊎◌, List, [], ◌∷◌, length, get_or, set, sym, refl, ap, ◌∙◌, subst, ap₂, inl, inr, add-one, arith, get_or-set_other, get_or-set_same}
 use lib.ListN.{get_or-map}
-use Rattle.std.proofs.lemmas.Bool.{and_parts, ltb-true}
+use Rattle.std.proofs.lemmas.Bool.{and_parts, and_from, ltb-true, lt-ltb}
+use Rattle.records.specs.Records.{branch_bytes}
 use Rattle.property.specs.declared.node.Node.{Node}
 use Rattle.property.specs.declared.node.Node.TheVariants.{Nothing, Choice, Sequence, Both, Lap, All}
 use Rattle.property.specs.Checks.{every, names}
 use Rattle.property.specs.Meant.{meant, all_meant}
 use Rattle.property.specs.Nodes as N
 use Rattle.property.specs.Numbered.{before}
-use Rattle.property.specs.Sized.{Laid_out, Kept, MarksAlso, branches_at, counted, cut, marked_total, named_by, names_before}
-use Rattle.property.specs.Sizes.{by_branches, in_family, size, size_by, weight}
+use Rattle.property.specs.Sized.{Laid_out, Kept, MarksAlso, branches_at, counted, cut, marked_total, named_by}
+use Rattle.property.specs.Sizes.{by_branches, in_family, size, size_by, some_branch, weight}
 use Rattle.property.proofs.Families.{earlier_at}
 use Rattle.property.proofs.Numbering.{before_lt, by_number_is, lt_or_ge}
 use Rattle.property.proofs.SizingSums.{cut_again, cut_lap, cut_product, cut_sum, total_cut}
+
+every_below : (n k : ℕ) (ms : List ℕ) → n ≤ k → every (λ m. ltb m n) ms ≡ true → every (λ m. ltb m k) ms ≡ true
+unfolding every
+every_below n k [] h e = refl
+every_below n k (m ∷ ms) h e =
+    let p = and_parts (ltb m n) _ e in
+    let lt : m < n = ltb-true m n p.0 in
+    and_from (ltb m k) _ (lt-ltb m k (omega arith)) (every_below n k ms h p.1)
 
 two_below : (n a b : ℕ) → every (λ m. ltb m n) (a ∷ b ∷ []) ≡ true → (a < n) × (b < n)
 unfolding every
@@ -75,18 +84,22 @@ module _ (file : List ℕ) (nodes : List Node) where
   marks_none was n h m =
       and_none (get_or was m false) (get_or was n false)
       ∙ sym (ap (λ b. get_or was m false || (get_or was n false && b))
-      (ap (by_branches (before false n (λ k. eqb k m))) (node_meant n (get_or nodes n Nothing) refl) ∙ no_branches file (before false n (λ k. eqb k m)) (get_or nodes n Nothing) h))
+      (ap (by_branches (λ k. eqb k m)) (node_meant n (get_or nodes n Nothing) refl) ∙ no_branches file (λ k. eqb k m) (get_or nodes n Nothing) h))
 
   -- a marked Choice marks the nodes of its branches
   pub marks_branches : (was marked : List Bool) (n start count : ℕ) → get_or nodes n Nothing ≡ Choice start count → get_or was n false ≡ true
-      → MarksAlso (names_before (branches_at file start count) n) was marked → MarksAlso (named_by (all_meant file nodes) was n) was marked
+      → MarksAlso (λ m. some_branch (λ k. eqb k m) (branches_at file start count)) was marked → MarksAlso (named_by (all_meant file nodes) was n) was marked
   marks_branches was marked n start count e here also m =
       also m
-      ∙ sym (ap₂ (λ x y. get_or was m false || (x && by_branches (before false n (λ k. eqb k m)) y)) here (node_meant n (Choice start count) e))
+      ∙ sym (ap₂ (λ x y. get_or was m false || (x && by_branches (λ k. eqb k m) y)) here (node_meant n (Choice start count) e))
 
   module _ (ok : Laid_out file nodes) where
     named_below : (n : ℕ) (x : Node) → get_or nodes n Nothing ≡ x → every (λ m. ltb m n) (names (meant file x)) ≡ true
     named_below n x e = sym (ap (λ y. every (λ m. ltb m n) (names y)) (node_meant n x e)) ∙ earlier_at (all_meant file nodes) ok.earlier n
+
+    pub branches_below : (n start count long : ℕ) → n ≤ long → get_or nodes n Nothing ≡ Choice start count
+        → every (λ m. ltb m long) (names (N.Choice (branches_at file start count))) ≡ true
+    branches_below n start count long h e = every_below n long (names (N.Choice (branches_at file start count))) h (named_below n (Choice start count) e)
 
     pub sequence_below : (n a b : ℕ) → get_or nodes n Nothing ≡ Sequence a b → (a < n) × (b < n)
     sequence_below n a b e = two_below n a b (named_below n (Sequence a b) e)
@@ -126,12 +139,12 @@ module _ (file : List ℕ) (nodes : List Node) where
       lap_size a e = ap (max 1) (kept_known a (lap_below n a e)) ∙ cut_lap (known a) ∙ sym (ap cut (size_is n (Lap a) e))
 
       pub choice_size : (start count : ℕ) (marked : List Bool) → get_or nodes n Nothing ≡ Choice start count
-          → ((m : ℕ) → m < suc n → get_or marked m false ≡ in_family (all_meant file nodes) n m) → cut (marked_total nodes sizes marked (n + 1)) ≡ cut (size (all_meant file nodes) n)
+          → ((m : ℕ) → get_or marked m false ≡ in_family (all_meant file nodes) n m) → cut (marked_total nodes sizes marked (n + 1)) ≡ cut (size (all_meant file nodes) n)
       choice_size start count marked e marks =
           ap (λ k. cut (marked_total nodes sizes marked k)) (add-one n)
           ∙ total_cut (λ m. cond (get_or marked m false) (counted (get_or nodes m Nothing) (get_or sizes m 0)) 0)
           (λ m. cond (in_family (all_meant file nodes) n m) (weight known m (N.node (all_meant file nodes) m)) 0) (suc n)
-          (λ m l. ap (λ b. cut (cond b (counted (get_or nodes m Nothing) (get_or sizes m 0)) 0)) (marks m l)
+          (λ m l. ap (λ b. cut (cond b (counted (get_or nodes m Nothing) (get_or sizes m 0)) 0)) (marks m)
           ∙ cut_cond (in_family (all_meant file nodes) n m) _ _ (alike m l))
           ∙ sym (ap cut (size_is n (Choice start count) e))
         where

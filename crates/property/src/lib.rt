@@ -1,5 +1,5 @@
 //! From a property file to a checked property: its alphabet and its nodes, or the fault that it gets.
-pub mod branches;
+mod branches;
 pub mod check;
 mod declared;
 pub mod fault;
@@ -7,3 +7,5 @@ mod named;
 pub mod node;
 pub mod place;
 pub mod sizes;
+#[cfg(test)]
+mod tests;

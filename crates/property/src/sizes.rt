@@ -1,9 +1,11 @@
-ghost use Rattle.std.specs.Prelude.{◌≡◌, ℕ, ◌+◌, ◌*◌, ◌<◌, ◌≤◌, max, false, length, ◌==◌, slice_index, slice_index_or};
+ghost use Rattle.std.specs.Prelude.{◌≡◌, ℕ, ◌+◌, ◌*◌, ◌<◌, ◌≤◌, max, true, false, length, nat_eq, nat_lt, slice_index, slice_index_or};
+ghost use Rattle.property.specs.Checks.{every, names};
 ghost use Rattle.property.specs.Meant.{all_meant};
 ghost use Rattle.property.specs.Nodes.{branches};
+ghost use Rattle.property.specs.Nodes as N;
 ghost use Rattle.property.specs.Placed.{closing_in, nodes_in, sizes_in, sizes_of, stored};
-ghost use Rattle.property.specs.Sized.{Laid_out, Kept, MarksAlso, FamilyTestIsExact, counted, cut, marked_total, named_by, names_before};
-ghost use Rattle.property.specs.Sizes.{in_family, size};
+ghost use Rattle.property.specs.Sized.{Laid_out, Kept, MarksAlso, FamilyTestIsExact, branches_at, counted, cut, marked_total, named_by};
+ghost use Rattle.property.specs.Sizes.{in_family, size, some_branch};
 
 use crate::branches::{branches_at, two_bytes};
 use crate::node::{MOST_NODES, Node};
@@ -67,52 +69,41 @@ fn weight_of(node: Node, own: u16) -> u16
     }
 }
 
-/// Marks the nodes before `end` that the branches in a body name.
-fn mark_branches(body: &[u8], end: usize, marked: &mut [bool])
-    requires { end ≤ length marked.old }
-    ensures { MarksAlso (names_before (branches body.now) end) marked.old marked.new }
+/// Marks the nodes that the branches in a body name.
+fn mark_branches(body: &[u8], marked: &mut [bool])
+    requires { every (λ m. nat_lt m (length marked.old)) (names (N.Choice (branches body.now))) ≡ true }
+    ensures { MarksAlso (λ m. some_branch (λ k. nat_eq k m) (branches body.now)) marked.old marked.new }
 {
     for branch in body.chunks_exact(BRANCH_BYTES) {
-        let number = two_bytes(branch, 1);
-        if number < end {
-            marked[number] = true;
-        }
+        marked[two_bytes(branch, 1)] = true;
     }
 }
 
-/// Marks the earlier nodes that a node names by branches, if it is marked itself.
-pub(crate) fn mark_named(file: &[u8], nodes: &[Node], n: usize, marked: &mut [bool])
+/// Marks the nodes that a node names by branches, if it is marked itself.
+fn mark_named(file: &[u8], nodes: &[Node], n: usize, marked: &mut [bool])
+    requires laid_out { Laid_out file.now nodes.now }
     requires within { n < length nodes.now }
     requires long { n < length marked.old }
     ensures { MarksAlso (λ m. named_by (all_meant file.now nodes.now) marked.old n m) marked.old marked.new }
 {
-    if marked[n] {
-        if let Node::Choice(start, count) = nodes[n] {
-            mark_branches(branches_at(file, start, count), n, marked);
+    if let Node::Choice(start, count) = nodes[n] {
+        if marked[n] {
+            mark_branches(branches_at(file, start, count), marked);
         }
     }
 }
 
-/// Marks one node, and no other.
-fn mark_alone(n: usize, marked: &mut [bool])
-    ensures { (m : ℕ) → m < length marked.new → slice_index_or marked.new m false ≡ (n == m) }
+/// Marks the family of a node, where nothing is marked.
+fn mark_family(file: &[u8], nodes: &[Node], n: usize, marked: &mut [bool])
+    requires laid_out { Laid_out file.now nodes.now }
+    requires within { n < length nodes.now }
+    requires long { n < length marked.old }
+    requires unmarked { (m : ℕ) → slice_index_or marked.old m false ≡ false }
+    ensures { (m : ℕ) → slice_index_or marked.new m false ≡ in_family (all_meant file.now nodes.now) n m }
 {
-    marked.fill(false);
-    if n < marked.len() {
-        marked[n] = true;
-    }
-}
-
-/// Marks the family of a node, and nothing else.
-pub(crate) fn mark_family(file: &[u8], nodes: &[Node], n: usize, marked: &mut [bool])
-    requires { length nodes.now ≤ length marked.old }
-    ensures { (m : ℕ) → m < length marked.new → slice_index_or marked.new m false ≡ in_family (all_meant file.now nodes.now) n m }
-{
-    mark_alone(n, marked);
-    if n < nodes.len() {
-        for m in (0..n + 1).rev() {
-            mark_named(file, nodes, m, marked);
-        }
+    marked[n] = true;
+    for m in (0..n + 1).rev() {
+        mark_named(file, nodes, m, marked);
     }
 }
 

@@ -5,4 +5,7 @@ pub mod Counts
 pub mod Faults
 pub mod Lists
 pub mod Meaning
+pub mod Rows
+pub mod Tabled
+pub mod Tables
 pub mod Valued

@@ -3,9 +3,14 @@ pub mod cap;
 pub mod count;
 pub mod fault;
 pub mod rule;
+pub mod table;
 pub mod theorems;
 
 pub use cap::Cap;
 pub use count::Count;
 pub use fault::RuleFault;
 pub use rule::Rule;
+pub use table::Table;
+
+#[cfg(test)]
+mod tests;

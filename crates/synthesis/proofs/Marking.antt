@@ -24,7 +24,7 @@ marked_within (x ∷ m) zero h = omega arith
 marked_within (x ∷ m) (suc p) h = let i = marked_within m p h in omega arith
 
 pub covers : (r : Loop) (letters m : List ℕ) → Fillable r letters → length m ≡ r.size → (p : ℕ) → p < r.size → Covers r m p
-covers r letters m f long p h = λ l q e. omega (arith, f.fair.stays p l q h e)
+covers r letters m f long p h = record { small = f.small; inside = h; covered = λ l q e. omega (arith, f.fair.stays p l q h e) }
 
 -- marks after a further mark
 pub marked_set : (m : List ℕ) (p v q : ℕ) → Marked (set m p v) q → (q ≡ p) ⊎ Marked m q

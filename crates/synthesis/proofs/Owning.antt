@@ -5,7 +5,7 @@ use Rattle.rules.specs.Lists.{follow_by}
 use Rattle.rules.proofs.Follows.{by_join}
 use Rattle.places.specs.Loops.{Loop, Live}
 use Rattle.places.specs.Owing.{LoopOwed, LoopSpan}
-use Rattle.synthesis.specs.Own.{AdmitsFrom, LeastOwed, LongestSpan, LowestLead, Own}
+use Rattle.synthesis.specs.Own.{AdmitsFrom, LeastOwed, LongestSpan, LowestLead, Own, TablesSaySo}
 use Rattle.synthesis.specs.Rows.{row_owed, row_span, row_lead, next_row}
 use Rattle.synthesis.specs.Table.{Tells}
 use Rattle.synthesis.proofs.Steps.{step, leads}
@@ -69,3 +69,6 @@ module _ (r : Loop) (letters table : List ℕ) (count : ℕ) (a : Tells r letter
     span = λ i h. longest_span i h (row_span letters table i) (a.span i h);
     lead = lowest_lead;
   }
+
+pub tables_say_so : TablesSaySo
+tables_say_so r letters table count a = own r letters table count a

@@ -1,5 +1,5 @@
 -- Lists of letters that lead from place to place.
-use Rattle.std.proofs.Common.{◌≡◌, ℕ, true, false, List, [], ◌∷◌, ◌++◌, is_some, Some, None, Option, sym, refl, ap, ◌∙◌}
+use Rattle.std.proofs.Common.{◌≡◌, ℕ, true, false, List, [], ◌∷◌, ◌++◌, is_some, Some, None, Option, sym, ap, ◌∙◌}
 use Rattle.std.proofs.lemmas.Bool.{false≢true, true≢false}
 use Rattle.rules.specs.Lists.{and_then, follow_by}
 use Rattle.rules.proofs.Follows.{then_some, by_join}
@@ -8,10 +8,6 @@ use Rattle.synthesis.specs.Marks.{Marked, LeadsOn, Onward}
 
 pub some_same : (p q : ℕ) → ◌≡◌ {A = Option ℕ} (Some p) (Some q) → p ≡ q
 some_same p q e = cc
-
-pub same_then : (f g : ℕ → Option ℕ) (o : Option ℕ) → ((q : ℕ) → o ≡ Some q → f q ≡ g q) → and_then o f ≡ and_then o g
-same_then f g None h = refl
-same_then f g (Some q) h = h q refl
 
 module _ (f : ℕ → ℕ → Option ℕ) where
   pub first_step : (p l : ℕ) (t : List ℕ) (q : ℕ) → follow_by f p (l ∷ t) ≡ Some q → (k : ℕ) × (f p l ≡ Some k) × (follow_by f k t ≡ Some q)
@@ -38,11 +34,10 @@ module _ (r : Loop) where
   pub reached_after : (p l q : ℕ) → r.next p l ≡ Some q → Reached r p → Reached r q
   reached_after p l q e t = (t.0 ++ l ∷ [], last_step r.next r.boundary t.0 p l q t.1 e)
 
-module _ (o : Option ℕ) (m : List ℕ) where
-  pub onward_some : (x : Option ℕ) → Onward o m x → is_some x ≡ true → (q : ℕ) × LeadsOn o m q
-  onward_some None a e = absurd (false≢true e)
-  onward_some (Some q) a e = (q, a)
+  pub onward_some : (m : List ℕ) (p l : ℕ) (o : Option ℕ) → Onward r m p l o → is_some o ≡ true → (q : ℕ) × LeadsOn r m p l q
+  onward_some m p l None a e = absurd (false≢true e)
+  onward_some m p l (Some q) a e = (q, a)
 
-  pub onward_none : (x : Option ℕ) → Onward o m x → is_some x ≡ false → (q : ℕ) → o ≡ Some q → Marked m q → ⊥
-  onward_none None a e = a
-  onward_none (Some q) a e = absurd (true≢false e)
+  pub onward_none : (m : List ℕ) (p l : ℕ) (o : Option ℕ) → Onward r m p l o → is_some o ≡ false → (q : ℕ) → r.next p l ≡ Some q → Marked m q → ⊥
+  onward_none m p l None a e = a
+  onward_none m p l (Some q) a e = absurd (true≢false e)

@@ -7,23 +7,25 @@ use Rattle.letters.specs.Letters.{letter, letter_bound, end, insertable}
 use Rattle.letters.specs.Alphabets.{position, each_a_letter}
 use Rattle.rules.specs.Meaning.{Meaning, Dead, Leads, Meant, Laws, most_places}
 use Rattle.rules.specs.Lists.{and_then, follow_by, Admits}
-use Rattle.tables.specs.Tabled as T
-use Rattle.tables.specs.Tabled.{width, entry, row_named, held_letter, tabled}
-use Rattle.tables.proofs.Below.{largest_over}
+use Rattle.rules.specs.Tabled as T
+use Rattle.rules.specs.Tabled.{width, entry, row_named, held_letter, tabled}
+use Rattle.rules.proofs.Below.{largest_over}
 use Rattle.rules.proofs.Follows.{is_some}
-use Rattle.tables.proofs.Positions.{letter_at}
-use Rattle.places.specs.Loops.{Loop, LeadsToLive}
-use Rattle.synthesis.specs.Fillable.{Fillable}
+use Rattle.rules.proofs.Positions.{letter_at}
+use Rattle.places.specs.Loops.{LeadsToLive}
+use Rattle.synthesis.specs.Laws.{RowLaws}
 use Rattle.synthesis.specs.Rows.{column, row_owed, row_span, row_lead, next_row}
-use Rattle.synthesis.specs.Ruled.{Ruled}
-use Rattle.synthesis.specs.Table.{Tells}
-use Rattle.synthesis.proofs.Laws.{RowLaws, row_laws}
+use Rattle.synthesis.specs.Ruled.{FilledTablesAreRules}
+use Rattle.synthesis.proofs.Laws.{rows_are_lawful}
 use Rattle.synthesis.proofs.Letters.{position_at}
-use Rattle.synthesis.proofs.Paths.{same_then}
 
 -- an insertable letter is a letter, which its type holds
 insertable_held : (a : ℕ) → insertable a ≡ true → a < letter_bound
 insertable_held a can = grind (arith, nat_tests)
+
+same_then : (f g : ℕ → Option ℕ) (o : Option ℕ) → ((q : ℕ) → o ≡ Some q → f q ≡ g q) → and_then o f ≡ and_then o g
+same_then f g None h = refl
+same_then f g (Some q) h = h q refl
 
 none_either : (b : Bool) → cond {A = Option ℕ} b None None ≡ None
 none_either true = refl
@@ -169,8 +171,8 @@ module _ (letters table : List ℕ) (count : ℕ) (room : count * width letters 
         ap (λ (o : Option ℕ). and_then o (λ q. follow_by M.next q t)) (next_is i a h)
         ∙ same_then (λ q. follow_by M.next q t) (λ q. follow_by (next_row letters table) q t) (next_row letters table i a) (λ q e. follow_is t q (laws.stays i a q h e))
 
-pub ruled : (r : Loop) (letters table : List ℕ) (count : ℕ) → Fillable r letters → each_a_letter letters ≡ true → Tells r letters table count → Ruled r letters table count
-ruled r letters table count fillable each a = record {
+pub filled_tables_are_rules : FilledTablesAreRules
+filled_tables_are_rules r letters table count fillable each a = record {
   lawful = record { meant = meant letters table count a.room laws a.some_row each; laws = lawful_laws letters table count a.room laws (omega (arith, a.few, fillable.small)) };
   admits = admits;
   few = a.few;
@@ -179,7 +181,7 @@ ruled r letters table count fillable each a = record {
 }
   where
     laws : RowLaws letters table count
-    laws = row_laws r letters table count fillable a
+    laws = rows_are_lawful r letters table count fillable a
 
     same : (t : List ℕ) → follow_by (tabled letters table count).next 0 t ≡ follow_by (next_row letters table) 0 t
     same t = follow_is letters table count a.room laws t 0 a.some_row

@@ -4,7 +4,7 @@ use Rattle.std.proofs.lemmas.Nat.{mul-add-lt, div-mul-add, mod-mul-add}
 use Rattle.std.proofs.lemmas.Bool.{cases_Bool, eqb-false, ne_eqb, cond-true, cond-false}
 use Rattle.letters.specs.Alphabets.{position}
 use Rattle.rules.specs.Lists.{and_then, follow_by}
-use Rattle.tables.specs.Tabled.{no_row, width, row_named}
+use Rattle.rules.specs.Tabled.{no_row, width, row_named}
 use Rattle.rules.proofs.Follows.{none_some, then_some}
 use Rattle.places.specs.Loops.{Loop, Live, LeadsToLive}
 use Rattle.synthesis.specs.Fillable.{Fillable}

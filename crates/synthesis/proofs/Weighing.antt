@@ -3,7 +3,7 @@ use Rattle.std.proofs.Common.{◌≡◌, ℕ, suc, ◌+◌, ◌-◌, ◌<◌, �
 use Rattle.std.proofs.lemmas.Bool.{cases_eq, cases_lt}
 use Rattle.letters.specs.Letters.{end, insertable}
 use Rattle.rules.specs.Lists.{follow_by, Endless}
-use Rattle.tables.specs.Tabled.{no_row}
+use Rattle.rules.specs.Tabled.{no_row}
 use Rattle.places.specs.Loops.{Loop, Live}
 use Rattle.places.specs.Owing.{LoopWay, LoopOwed, LoopSpan}
 use Rattle.synthesis.specs.Fillable.{Fillable}

@@ -2,8 +2,10 @@
 use Rattle.std.specs.Prelude.{◌≡◌, ℕ, ◌+◌, ◌<◌, ◌≤◌, true, List, [], ◌∷◌, ◌++◌, length, Some, Option}
 use Rattle.letters.specs.Letters.{end, insertable}
 use Rattle.rules.specs.Lists.{follow_by, Insertable, Endless}
-use Rattle.tables.specs.Tabled.{no_row}
+use Rattle.rules.specs.Tabled.{no_row}
+use Rattle.places.specs.Loops.{Loop}
 use Rattle.synthesis.specs.Rows.{row_owed, row_span, row_lead, next_row}
+use Rattle.synthesis.specs.Table.{Tells}
 
 -- the list t is admitted from the row i
 abbrev pub AdmitsFrom : (ℕ → ℕ → Option ℕ) → ℕ → List ℕ → Type 0
@@ -35,3 +37,6 @@ pub record Own (letters table : List ℕ) (count : ℕ) : Type 0 where
   pub owed : (i : ℕ) → i < count → LeastOwed (next_row letters table) i (row_owed letters table i)
   pub span : (i : ℕ) → i < count → LongestSpan (next_row letters table) i (row_span letters table i)
   pub lead : (i : ℕ) → i < count → LowestLead (next_row letters table) (row_owed letters table) i (row_lead letters table i)
+
+abbrev pub TablesSaySo : Type 0
+TablesSaySo = (r : Loop) (letters table : List ℕ) (count : ℕ) → Tells r letters table count → Own letters table count

@@ -3,7 +3,7 @@
 use Rattle.std.specs.Prelude.{ℕ, ◌+◌, ◌*◌, List, length, Option, slice_index}
 use Rattle.letters.specs.Alphabets.{position}
 use Rattle.rules.specs.Lists.{and_then}
-use Rattle.tables.specs.Tabled.{width, row_named}
+use Rattle.rules.specs.Tabled.{width, row_named}
 
 -- what stands in the row i at the column j
 abbrev pub column : List ℕ → List ℕ → ℕ → ℕ → ℕ

@@ -1,22 +1,21 @@
 -- What a filled table tells of the places that it was filled from.
-use Rattle.std.specs.Prelude.{◌≡◌, ℕ, ◌+◌, ◌*◌, ◌/◌, ◌%◌, ◌<◌, ◌≤◌, ◌↔◌, List, length, Some, Option, ◌≢◌, slice_index}
+use Rattle.std.specs.Prelude.{◌≡◌, ℕ, ◌+◌, ◌*◌, ◌/◌, ◌%◌, ◌<◌, ◌≤◌, ◌↔◌, List, length, Some, None, Option, ◌≢◌, slice_index}
 use Rattle.rules.specs.Lists.{follow_by}
-use Rattle.tables.specs.Tabled.{no_row, width}
+use Rattle.rules.specs.Tabled.{no_row, width}
 use Rattle.places.specs.Loops.{Loop, LeadsToLive}
 use Rattle.places.specs.Owing.{LoopOwed, LoopSpan}
-use Rattle.synthesis.specs.Drawn.{Line}
 use Rattle.synthesis.specs.Marks.{Marked}
-use Rattle.synthesis.specs.Weights.{Lead}
+use Rattle.synthesis.specs.Weights.{Lead, Stranded}
 use Rattle.synthesis.specs.Rows.{row_owed, row_span, row_lead, next_row}
 
--- v is the row of the place that o names, or no row
-pub record Cell (rows : List ℕ) (o : Option ℕ) (v : ℕ) : Type 0 where
-  pub led : (q : ℕ) → o ≡ Some q → Marked rows q → v + 1 ≡ slice_index rows q
-  pub leads : (v ≢ no_row) → (q : ℕ) × (o ≡ Some q) × Marked rows q
+-- v is the row that the letter l leads to from p, or no row
+pub record Cell (r : Loop) (rows : List ℕ) (p l v : ℕ) : Type 0 where
+  pub led : (q : ℕ) → r.next p l ≡ Some q → Marked rows q → v + 1 ≡ slice_index rows q
+  pub leads : (v ≢ no_row) → (q : ℕ) × (r.next p l ≡ Some q) × Marked rows q
 
 -- v stands in the column j of the row of the place p
 pub record Entry (r : Loop) (letters rows : List ℕ) (p j v : ℕ) : Type 0 where
-  pub cell : j < length letters → Cell rows (r.next p (slice_index letters j)) v
+  pub cell : j < length letters → Cell r rows p (slice_index letters j) v
   pub owed : j ≡ length letters → LoopOwed r p v
   pub span : j ≡ length letters + 1 → LoopSpan r p v
   pub lead : j ≡ length letters + 2 → Lead r p v
@@ -25,11 +24,6 @@ pub record Entry (r : Loop) (letters rows : List ℕ) (p j v : ℕ) : Type 0 whe
 pub record Written (r : Loop) (letters rows order : List ℕ) (count k v : ℕ) : Type 0 where
   pub inside : k < count * width letters → Entry r letters rows (slice_index order (k / width letters)) (k % width letters) v
   pub past : count * width letters ≤ k → v ≡ no_row
-
--- the line is that of the row at k, unless the row begins there
-abbrev pub Lined : Loop → List ℕ → List ℕ → ℕ → List ℕ → ℕ → Type 0
-Lined r letters order count line k =
-    k < count * width letters → (k % width letters ≢ 0) → Line r letters (slice_index order (k / width letters)) line
 
 -- what the table says of the loop r: its rows are the live places that are reached
 pub record Tells (r : Loop) (letters table : List ℕ) (count : ℕ) : Type 0 where
@@ -55,3 +49,8 @@ pub record Tells (r : Loop) (letters table : List ℕ) (count : ℕ) : Type 0 wh
 -- each number of the memory is v
 abbrev pub AllAre : ℕ → List ℕ → Type 0
 AllAre v m = (k : ℕ) → k < length m → slice_index m k ≡ v
+
+-- what filling answers, and what then stands in the table memory: the number of rows, or none where a place is stranded
+abbrev pub Filled : Loop → List ℕ → List ℕ → Option ℕ → Type 0
+Filled r letters table None = Stranded r × AllAre no_row table
+Filled r letters table (Some count) = Tells r letters table count

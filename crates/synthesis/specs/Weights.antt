@@ -1,7 +1,7 @@
 -- What the places with rows owe, their spans and their leads.
-use Rattle.std.specs.Prelude.{◌≡◌, ℕ, suc, ◌<◌, ◌≤◌, true, List, length, Some, Option, ◌≢◌, slice_index}
+use Rattle.std.specs.Prelude.{◌≡◌, ℕ, suc, ◌<◌, ◌≤◌, true, List, length, Some, ◌≢◌, slice_index}
 use Rattle.letters.specs.Letters.{end, insertable}
-use Rattle.tables.specs.Tabled.{no_row}
+use Rattle.rules.specs.Tabled.{no_row}
 use Rattle.places.specs.Loops.{Loop, Reached, Live}
 use Rattle.places.specs.Owing.{LoopWay, LoopOwed, LoopSpan}
 use Rattle.synthesis.specs.Marks.{Marked}
@@ -18,13 +18,9 @@ pub record Spans (r : Loop) (rows span : List ℕ) (i : ℕ) : Type 0 where
   pub spans : (p : ℕ) → p < i → Marked rows p → LoopSpan r p (slice_index span p)
   pub low : (p : ℕ) → p < i → Marked rows p → slice_index span p ≤ p
 
--- the letter l is insertable, and o names the place q, which has a row
-abbrev pub InsertsTo : List ℕ → ℕ → Option ℕ → ℕ → Type 0
-InsertsTo rows l o q = (insertable l ≡ true) × (o ≡ Some q) × Marked rows q
-
 -- the insertable letter l leads from p to the place q, which has a row
 abbrev pub Inserts : Loop → List ℕ → ℕ → ℕ → ℕ → Type 0
-Inserts r rows p l q = InsertsTo rows l (r.next p l) q
+Inserts r rows p l q = (insertable l ≡ true) × (r.next p l ≡ Some q) × Marked rows q
 
 -- the letter l, which is not the end, leads from p to the place q, which has a row
 abbrev pub Goes_on : Loop → List ℕ → ℕ → ℕ → ℕ → Type 0

@@ -1,9 +1,5 @@
-//! From a property file to a table that admits exactly the beginnings of its property, or the fault that it gets.
-mod course;
-mod drawn;
-pub mod fault;
+//! The table of a property, filled from its places.
 mod fill;
 mod rows;
-pub mod synthesize;
+pub mod theorems;
 mod weights;
-mod write;

@@ -1,13 +1,11 @@
-ghost use Rattle.std.specs.Prelude.{◌≡◌, ℕ, ◌<◌, ◌≤◌, true, false, length, Some};
-ghost use Rattle.property.specs.Sized.{most_size};
-ghost use Rattle.synthesis.specs.Drawn.{drawn};
+ghost use Rattle.std.specs.Prelude.{◌≡◌, ℕ, ◌<◌, true, false, length, Some};
 ghost use Rattle.synthesis.specs.Fillable.{Fillable};
 ghost use Rattle.synthesis.specs.Marks.{Marked, Covers, Onward, Into, Marking, Exact, zeros};
 ghost use Rattle.synthesis.specs.Numbers.{Numbered, Followed, Grown, Rows};
 ghost use Rattle.synthesis.specs.Table.{AllAre};
 
-use crate::drawn::Drawn;
 use letters::letter::Letter;
+use places::places::Places;
 
 /// Writes a value everywhere.
 pub(crate) fn clear(memory: &mut [u16], value: u16)
@@ -18,12 +16,17 @@ pub(crate) fn clear(memory: &mut [u16], value: u16)
     }
 }
 
-/// The place, where it is marked.
-pub(crate) fn if_marked(place: Option<u16>, marks: &[u16]) -> Option<u16>
-    requires { (q : ℕ) → place ≡ Some q → q < length marks.now }
-    ensures { Onward place marks.now result }
+/// The marked place that a letter leads to from a place.
+pub(crate) fn onward<P: Places>(
+    places: &P,
+    letter: Letter,
+    marks: &[u16],
+    place: u16,
+) -> Option<u16>
+    requires { Covers (P.Places.meaning places.now) marks.now place }
+    ensures { Onward (P.Places.meaning places.now) marks.now place letter result }
 {
-    match place {
+    match places.following(place, letter) {
         None => None,
         Some(next) => {
             if marks[next as usize] == 0 {
@@ -35,21 +38,13 @@ pub(crate) fn if_marked(place: Option<u16>, marks: &[u16]) -> Option<u16>
     }
 }
 
-/// The marked place that a letter leads to from a place.
-pub(crate) fn onward(places: &Drawn, letter: Letter, marks: &[u16], place: u16) -> Option<u16>
-    requires { Covers (drawn places.now) marks.now place }
-    ensures { Onward ((drawn places.now).next place letter) marks.now result }
-{
-    if_marked(places.following(place, letter), marks)
-}
-
 /// Whether some letter leads from a place to a marked one.
-fn leads_to(places: &Drawn, letters: &[Letter], marks: &[u16], place: u16) -> bool
-    requires fillable { Fillable (drawn places.now) letters.now }
-    requires marks_len { length marks.now ≡ (drawn places.now).size }
-    requires place_bound { place < (drawn places.now).size }
-    ensures yes { result ≡ true → Into (drawn places.now) marks.now place }
-    ensures nay { result ≡ false → Into (drawn places.now) marks.now place → ⊥ }
+fn leads_to<P: Places>(places: &P, letters: &[Letter], marks: &[u16], place: u16) -> bool
+    requires fillable { Fillable (P.Places.meaning places.now) letters.now }
+    requires marks_len { length marks.now ≡ (P.Places.meaning places.now).size }
+    requires place_bound { place < (P.Places.meaning places.now).size }
+    ensures yes { result ≡ true → Into (P.Places.meaning places.now) marks.now place }
+    ensures nay { result ≡ false → Into (P.Places.meaning places.now) marks.now place → ⊥ }
 {
     for letter in letters {
         if onward(places, *letter, marks, place).is_some() {
@@ -60,15 +55,15 @@ fn leads_to(places: &Drawn, letters: &[Letter], marks: &[u16], place: u16) -> bo
 }
 
 /// Marks each place that leads to a marked one; answers whether a mark was added.
-fn mark_more(places: &Drawn, letters: &[Letter], marks: &mut [u16]) -> bool
-    requires fillable { Fillable (drawn places.now) letters.now }
-    requires marking_2 { Marking (drawn places.now) marks.old }
-    ensures marking { Marking (drawn places.now) marks.new }
+fn mark_more<P: Places>(places: &P, letters: &[Letter], marks: &mut [u16]) -> bool
+    requires fillable { Fillable (P.Places.meaning places.now) letters.now }
+    requires marking_2 { Marking (P.Places.meaning places.now) marks.old }
+    ensures marking { Marking (P.Places.meaning places.now) marks.new }
     ensures more { result ≡ true → zeros marks.new < zeros marks.old }
-    ensures done { result ≡ false → (p : ℕ) → p < (drawn places.now).size → Into (drawn places.now) marks.new p → Marked marks.new p }
+    ensures done { result ≡ false → (p : ℕ) → p < (P.Places.meaning places.now).size → Into (P.Places.meaning places.now) marks.new p → Marked marks.new p }
 {
     let mut added = false;
-    for place in 0..places.size {
+    for place in 0..places.size() {
         if marks[place as usize] == 0 {
             if leads_to(places, letters, marks, place) {
                 marks[place as usize] = 1;
@@ -80,19 +75,19 @@ fn mark_more(places: &Drawn, letters: &[Letter], marks: &mut [u16]) -> bool
 }
 
 /// Marks exactly the live places.
-pub(crate) fn mark_live(places: &Drawn, letters: &[Letter], marks: &mut [u16])
-    requires fillable { Fillable (drawn places.now) letters.now }
-    requires marks_len { length marks.old ≡ (drawn places.now).size }
-    ensures { Exact (drawn places.now) marks.new }
+pub(crate) fn mark_live<P: Places>(places: &P, letters: &[Letter], marks: &mut [u16])
+    requires fillable { Fillable (P.Places.meaning places.now) letters.now }
+    requires marks_len { length marks.old ≡ (P.Places.meaning places.now).size }
+    ensures { Exact (P.Places.meaning places.now) marks.new }
 {
     clear(marks, 0);
-    marks[places.boundary as usize] = 1;
+    marks[places.boundary() as usize] = 1;
     while mark_more(places, letters, marks) {}
 }
 
 /// Gives the live place that a letter leads to a row, unless it has one; answers the number of rows.
-fn number_by(
-    places: &Drawn,
+fn number_by<P: Places>(
+    places: &P,
     letter: Letter,
     live: &[u16],
     rows: &mut [u16],
@@ -100,14 +95,13 @@ fn number_by(
     count: u16,
     place: u16,
 ) -> u16
-    requires covers { Covers (drawn places.now) live.now place }
-    requires live_len { length live.now ≡ (drawn places.now).size }
-    requires numbered_2 { Numbered (drawn places.now) live.now rows.old order.old count }
+    requires covers { Covers (P.Places.meaning places.now) live.now place }
+    requires live_len { length live.now ≡ (P.Places.meaning places.now).size }
+    requires numbered_2 { Numbered (P.Places.meaning places.now) live.now rows.old order.old count }
     requires marked { Marked rows.old place }
-    requires places_bound { (drawn places.now).size ≤ most_size }
-    ensures numbered { Numbered (drawn places.now) live.now rows.new order.new result }
+    ensures numbered { Numbered (P.Places.meaning places.now) live.now rows.new order.new result }
     ensures grown { Grown rows.old order.old count rows.new order.new result }
-    ensures followed { (q : ℕ) → (drawn places.now).next place letter ≡ Some q → Marked live.now q → Marked rows.new q }
+    ensures followed { (q : ℕ) → (P.Places.meaning places.now).next place letter ≡ Some q → Marked live.now q → Marked rows.new q }
 {
     match onward(places, letter, live, place) {
         None => count,
@@ -123,8 +117,8 @@ fn number_by(
 }
 
 /// Gives each live place that a letter leads to a row.
-fn number_from(
-    places: &Drawn,
+fn number_from<P: Places>(
+    places: &P,
     letters: &[Letter],
     live: &[u16],
     rows: &mut [u16],
@@ -132,13 +126,13 @@ fn number_from(
     count: u16,
     place: u16,
 ) -> u16
-    requires fillable { Fillable (drawn places.now) letters.now }
-    requires live_len { length live.now ≡ (drawn places.now).size }
-    requires numbered_2 { Numbered (drawn places.now) live.now rows.old order.old count }
+    requires fillable { Fillable (P.Places.meaning places.now) letters.now }
+    requires live_len { length live.now ≡ (P.Places.meaning places.now).size }
+    requires numbered_2 { Numbered (P.Places.meaning places.now) live.now rows.old order.old count }
     requires marked { Marked rows.old place }
-    ensures numbered { Numbered (drawn places.now) live.now rows.new order.new result }
+    ensures numbered { Numbered (P.Places.meaning places.now) live.now rows.new order.new result }
     ensures grown { Grown rows.old order.old count rows.new order.new result }
-    ensures followed { Followed (drawn places.now) live.now rows.new place }
+    ensures followed { Followed (P.Places.meaning places.now) live.now rows.new place }
 {
     let mut found = count;
     for letter in letters {
@@ -148,21 +142,21 @@ fn number_from(
 }
 
 /// Numbers the live places that are reached from the boundary, which is row 0; answers how many there are.
-pub(crate) fn number(
-    places: &Drawn,
+pub(crate) fn number<P: Places>(
+    places: &P,
     letters: &[Letter],
     live: &[u16],
     rows: &mut [u16],
     order: &mut [u16],
 ) -> u16
-    requires fillable { Fillable (drawn places.now) letters.now }
-    requires exact { Exact (drawn places.now) live.now }
-    requires rows_len { length rows.old ≡ (drawn places.now).size }
-    requires order_len { length order.old ≡ (drawn places.now).size }
-    ensures { Rows (drawn places.now) rows.new order.new result }
+    requires fillable { Fillable (P.Places.meaning places.now) letters.now }
+    requires exact { Exact (P.Places.meaning places.now) live.now }
+    requires rows_len { length rows.old ≡ (P.Places.meaning places.now).size }
+    requires order_len { length order.old ≡ (P.Places.meaning places.now).size }
+    ensures { Rows (P.Places.meaning places.now) rows.new order.new result }
 {
     clear(rows, 0);
-    let boundary = places.boundary;
+    let boundary = places.boundary();
     rows[boundary as usize] = 1;
     order[0] = boundary;
     let mut count = 1;

@@ -1,32 +1,31 @@
-ghost use Rattle.std.specs.Prelude.{◌≡◌, ℕ, ◌+◌, ◌<◌, ◌≤◌, true, false, List, length, slice_index};
-ghost use Rattle.tables.specs.Tabled.{no_row};
+ghost use Rattle.std.specs.Prelude.{◌≡◌, ℕ, ◌+◌, ◌<◌, ◌≤◌, true, false, List, length, ◌≢◌, slice_index};
+ghost use Rattle.rules.specs.Tabled.{no_row};
 ghost use Rattle.places.specs.Owing.{LoopWay, LoopOwed, LoopSpan};
-ghost use Rattle.synthesis.specs.Drawn.{drawn};
 ghost use Rattle.synthesis.specs.Fillable.{Fillable};
 ghost use Rattle.synthesis.specs.Marks.{Marked, Covers};
 ghost use Rattle.synthesis.specs.Numbers.{Rowed};
-ghost use Rattle.synthesis.specs.Weights.{Owes, Spans, Inserts, Goes_on, Stranded};
+ghost use Rattle.synthesis.specs.Weights.{Owes, Spans, Inserts, Goes_on, Lead, Stranded};
 
-use crate::drawn::Drawn;
 use crate::rows::onward;
 use letters::letter::{END, Letter, may_insert};
-use tables::table::NO_ROW;
+use places::places::Places;
+use rules::table::NO_ROW;
 
 /// The smaller of `least` and what the place owes by way of the letter.
-fn owed_by(
-    places: &Drawn,
+fn owed_by<P: Places>(
+    places: &P,
     letter: Letter,
     rows: &[u16],
     owed: &[u16],
     place: u16,
     least: u16,
 ) -> u16
-    requires covers { Covers (drawn places.now) rows.now place }
+    requires covers { Covers (P.Places.meaning places.now) rows.now place }
     requires owed_len { length owed.now ≡ length rows.now }
-    requires by_index { (q : ℕ) → Inserts (drawn places.now) rows.now place letter q → slice_index owed.now q < no_row }
+    requires by_index { (q : ℕ) → Inserts (P.Places.meaning places.now) rows.now place letter q → slice_index owed.now q < no_row }
     ensures lower { result ≤ least }
-    ensures from { result < least → (q : ℕ) × Inserts (drawn places.now) rows.now place letter q × (result ≡ slice_index owed.now q + 1) }
-    ensures at { (q : ℕ) → Inserts (drawn places.now) rows.now place letter q → result ≤ slice_index owed.now q + 1 }
+    ensures from { result < least → (q : ℕ) × Inserts (P.Places.meaning places.now) rows.now place letter q × (result ≡ slice_index owed.now q + 1) }
+    ensures at { (q : ℕ) → Inserts (P.Places.meaning places.now) rows.now place letter q → result ≤ slice_index owed.now q + 1 }
 {
     if !may_insert(letter) {
         return least;
@@ -41,14 +40,14 @@ fn owed_by(
 }
 
 /// What the place owes, or `NO_ROW` where it has no insertable way to an end.
-fn owed_at(places: &Drawn, letters: &[Letter], rows: &[u16], owed: &[u16], place: u16) -> u16
-    requires fillable { Fillable (drawn places.now) letters.now }
-    requires rowed { Rowed (drawn places.now) rows.now }
-    requires owes { Owes (drawn places.now) rows.now owed.now place }
+fn owed_at<P: Places>(places: &P, letters: &[Letter], rows: &[u16], owed: &[u16], place: u16) -> u16
+    requires fillable { Fillable (P.Places.meaning places.now) letters.now }
+    requires rowed { Rowed (P.Places.meaning places.now) rows.now }
+    requires owes { Owes (P.Places.meaning places.now) rows.now owed.now place }
     requires marked { Marked rows.now place }
     ensures low { result < no_row → result ≤ place }
-    ensures found { result < no_row → LoopOwed (drawn places.now) place result }
-    ensures stranded { result ≡ no_row → (u : List ℕ) → LoopWay (drawn places.now) place u → ⊥ }
+    ensures found { result < no_row → LoopOwed (P.Places.meaning places.now) place result }
+    ensures stranded { result ≡ no_row → (u : List ℕ) → LoopWay (P.Places.meaning places.now) place u → ⊥ }
 {
     if onward(places, END, rows, place).is_some() {
         return 0;
@@ -61,20 +60,20 @@ fn owed_at(places: &Drawn, letters: &[Letter], rows: &[u16], owed: &[u16], place
 }
 
 /// The larger of `longest` and the span by way of the letter.
-fn span_by(
-    places: &Drawn,
+fn span_by<P: Places>(
+    places: &P,
     letter: Letter,
     rows: &[u16],
     span: &[u16],
     place: u16,
     longest: u16,
 ) -> u16
-    requires covers { Covers (drawn places.now) rows.now place }
+    requires covers { Covers (P.Places.meaning places.now) rows.now place }
     requires span_len { length span.now ≡ length rows.now }
-    requires by_index { (q : ℕ) → Goes_on (drawn places.now) rows.now place letter q → slice_index span.now q < no_row }
+    requires by_index { (q : ℕ) → Goes_on (P.Places.meaning places.now) rows.now place letter q → slice_index span.now q < no_row }
     ensures higher { longest ≤ result }
-    ensures from { longest < result → (q : ℕ) × Goes_on (drawn places.now) rows.now place letter q × (result ≡ slice_index span.now q + 1) }
-    ensures at { (q : ℕ) → Goes_on (drawn places.now) rows.now place letter q → slice_index span.now q + 1 ≤ result }
+    ensures from { longest < result → (q : ℕ) × Goes_on (P.Places.meaning places.now) rows.now place letter q × (result ≡ slice_index span.now q + 1) }
+    ensures at { (q : ℕ) → Goes_on (P.Places.meaning places.now) rows.now place letter q → slice_index span.now q + 1 ≤ result }
 {
     if letter == END {
         return longest;
@@ -89,13 +88,13 @@ fn span_by(
 }
 
 /// The span of the place.
-fn span_at(places: &Drawn, letters: &[Letter], rows: &[u16], span: &[u16], place: u16) -> u16
-    requires fillable { Fillable (drawn places.now) letters.now }
-    requires rowed { Rowed (drawn places.now) rows.now }
-    requires spans { Spans (drawn places.now) rows.now span.now place }
+fn span_at<P: Places>(places: &P, letters: &[Letter], rows: &[u16], span: &[u16], place: u16) -> u16
+    requires fillable { Fillable (P.Places.meaning places.now) letters.now }
+    requires rowed { Rowed (P.Places.meaning places.now) rows.now }
+    requires spans { Spans (P.Places.meaning places.now) rows.now span.now place }
     requires marked { Marked rows.now place }
     ensures low { result ≤ place }
-    ensures found { LoopSpan (drawn places.now) place result }
+    ensures found { LoopSpan (P.Places.meaning places.now) place result }
 {
     let mut longest = 0;
     for letter in letters {
@@ -105,22 +104,22 @@ fn span_at(places: &Drawn, letters: &[Letter], rows: &[u16], span: &[u16], place
 }
 
 /// Weighs each place with a row, in ascending order: what it owes and its span; answers whether each has an insertable way to an end.
-pub(crate) fn weigh(
-    places: &Drawn,
+pub(crate) fn weigh<P: Places>(
+    places: &P,
     letters: &[Letter],
     rows: &[u16],
     owed: &mut [u16],
     span: &mut [u16],
 ) -> bool
-    requires fillable { Fillable (drawn places.now) letters.now }
-    requires rowed { Rowed (drawn places.now) rows.now }
-    requires owed_len { length owed.old ≡ (drawn places.now).size }
-    requires span_len { length span.old ≡ (drawn places.now).size }
-    ensures owes { result ≡ true → Owes (drawn places.now) rows.now owed.new (drawn places.now).size }
-    ensures spans { result ≡ true → Spans (drawn places.now) rows.now span.new (drawn places.now).size }
-    ensures stranded { result ≡ false → Stranded (drawn places.now) }
+    requires fillable { Fillable (P.Places.meaning places.now) letters.now }
+    requires rowed { Rowed (P.Places.meaning places.now) rows.now }
+    requires owed_len { length owed.old ≡ (P.Places.meaning places.now).size }
+    requires span_len { length span.old ≡ (P.Places.meaning places.now).size }
+    ensures owes { result ≡ true → Owes (P.Places.meaning places.now) rows.now owed.new (P.Places.meaning places.now).size }
+    ensures spans { result ≡ true → Spans (P.Places.meaning places.now) rows.now span.new (P.Places.meaning places.now).size }
+    ensures stranded { result ≡ false → Stranded (P.Places.meaning places.now) }
 {
-    for place in 0..places.size {
+    for place in 0..places.size() {
         if rows[place as usize] != 0 {
             let least = owed_at(places, letters, rows, owed, place);
             if least == NO_ROW {
@@ -132,4 +131,54 @@ pub(crate) fn weigh(
         }
     }
     true
+}
+
+/// Whether the letter leads from the place to one that owes one less than `due`.
+fn lowers<P: Places>(
+    places: &P,
+    letter: Letter,
+    rows: &[u16],
+    owed: &[u16],
+    place: u16,
+    due: u16,
+) -> bool
+    requires covers { Covers (P.Places.meaning places.now) rows.now place }
+    requires owed_len { length owed.now ≡ length rows.now }
+    requires by_index { (q : ℕ) → Inserts (P.Places.meaning places.now) rows.now place letter q → slice_index owed.now q < no_row }
+    ensures yes { result ≡ true → (q : ℕ) × Inserts (P.Places.meaning places.now) rows.now place letter q × (slice_index owed.now q + 1 ≡ due) }
+    ensures nay { result ≡ false → (q : ℕ) → Inserts (P.Places.meaning places.now) rows.now place letter q → slice_index owed.now q + 1 ≢ due }
+{
+    if !may_insert(letter) {
+        return false;
+    }
+    match onward(places, letter, rows, place) {
+        None => false,
+        Some(next) => owed[next as usize] + 1 == due,
+    }
+}
+
+/// The lead of the place: the lowest letter that lowers what it owes, or `NO_ROW` where it owes nothing.
+pub(crate) fn lead_at<P: Places>(
+    places: &P,
+    letters: &[Letter],
+    rows: &[u16],
+    owed: &[u16],
+    place: u16,
+) -> u16
+    requires fillable { Fillable (P.Places.meaning places.now) letters.now }
+    requires rowed { Rowed (P.Places.meaning places.now) rows.now }
+    requires owes { Owes (P.Places.meaning places.now) rows.now owed.now (P.Places.meaning places.now).size }
+    requires marked { Marked rows.now place }
+    ensures { Lead (P.Places.meaning places.now) place result }
+{
+    let due = owed[place as usize];
+    if due == 0 {
+        return NO_ROW;
+    }
+    for letter in letters {
+        if lowers(places, *letter, rows, owed, place, due) {
+            return *letter as u16;
+        }
+    }
+    NO_ROW
 }

@@ -1,12 +1,8 @@
-ghost use Rattle.std.specs.Prelude.{◌≡◌, ℕ, ◌<◌, false, length, slice_index_or};
-ghost use Rattle.property.specs.Checks.{most_nodes};
-ghost use Rattle.property.specs.Placed.{stored, nodes_in, closing_in, sizes_in, Emptied};
-ghost use Rattle.property.specs.Sized.{MarksAlso, named_by};
-ghost use Rattle.property.specs.Sizes.{in_family};
+ghost use Rattle.std.specs.Prelude.{◌≡◌, length};
+ghost use Rattle.property.specs.Placed.{stored, closing_in, sizes_in, Emptied};
 
 use crate::node::{MOST_NODES, Node};
 use crate::place::Nodes;
-use crate::sizes::{mark_family, mark_named};
 
 impl Nodes {
     /// A place with no nodes.
@@ -42,23 +38,6 @@ impl Nodes {
         ensures { result.now ≡ sizes_in self.now }
     {
         &self.sizes[0..self.count]
-    }
-
-    /// Marks the family of a node, and nothing else.
-    pub fn mark_family(&self, file: &[u8], n: usize, marked: &mut [bool; MOST_NODES])
-        ensures { (m : ℕ) → m < most_nodes → slice_index_or marked.new m false ≡ in_family (nodes_in file.now self.now) n m }
-    {
-        mark_family(file, self.nodes(), n, marked);
-    }
-
-    /// Marks also the earlier nodes that a node names by branches, if it is marked itself.
-    pub fn mark_named(&self, file: &[u8], n: usize, marked: &mut [bool; MOST_NODES])
-        ensures { MarksAlso (λ m. named_by (nodes_in file.now self.now) marked.old n m) marked.old marked.new }
-    {
-        let nodes = self.nodes();
-        if n < nodes.len() {
-            mark_named(file, nodes, n, marked);
-        }
     }
 
     /// The offset of the last record of the file.

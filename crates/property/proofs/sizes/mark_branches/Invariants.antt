@@ -9,4 +9,4 @@ invariant-loop-branch l =
     (goal.iterator-loop-branch).can_next l.branch-iterator
     × (goal.iterator-loop-branch).is_finite l.branch-iterator
     × (chunks_exact_size l.branch-iterator ≡ branch_bytes)
-    × Marking l.body (chunks_exact_rest l.branch-iterator) l.end l.initial.marked l.marked
+    × Marking l.body (chunks_exact_rest l.branch-iterator) l.initial.marked l.marked

@@ -1,10 +1,9 @@
 use Rattle.std.proofs.Common.{◌-◌}
-use Rattle.synthesis.specs.Drawn.{drawn}
 use Rattle.synthesis.proofs.Numbering.{Numbering}
 use Rattle.synthesis.proofs.rows.number.Given as goal
 
 abbrev pub invariant-loop-head : goal.invariant-loop-head
-invariant-loop-head l = Numbering (drawn l.places) l.live l.rows l.order l.count l.head
+invariant-loop-head g l = Numbering (g.P.Places.meaning l.places) l.live l.rows l.order l.count l.head
 
 abbrev pub decreases-loop-head : goal.decreases-loop-head
-decreases-loop-head l = (drawn l.places).size - l.head
+decreases-loop-head g l = (g.P.Places.meaning l.places).size - l.head

@@ -1,25 +1,17 @@
 use Rattle.std.proofs.Common.{ℕ, ◌+◌, ◌<◌, set, sym, ◌∙◌, subst, arith}
-use Rattle.synthesis.specs.Drawn.{drawn}
 use Rattle.synthesis.specs.Marks.{Marked}
 use Rattle.synthesis.proofs.Paths.{some_same, reached_after}
 use Rattle.synthesis.proofs.Numbering.{room_left, numbered_more, grown_more, has_row}
 use Rattle.synthesis.proofs.rows.number_by.Goals as goal
 
-room : (c : goal.Else-rows-next-ne0) → c.args.count < (drawn c.args.places.now).size
-room c = room_left (drawn c.args.places.now) c.args.live.now c.args.rows.now c.args.order.now c.args.count c.requires.2 c.in-Some.next (omega (arith, c.in-Some.ensures.inside)) (omega arith)
-
-pub overflow-add-rows : goal.overflow-add-rows
-overflow-add-rows c = omega (arith, room c, c.requires.4)
-
-pub overflow-add-result : goal.overflow-add-result
-overflow-add-result c = omega (arith, room c, c.requires.4)
-
 pub bounds-order-count : goal.bounds-order-count
-bounds-order-count c = omega (arith, room c, c.requires.2.order_long)
+bounds-order-count g c =
+    let r = g.P.Places.meaning c.args.places.now in
+    omega (arith, room_left r c.args.live.now c.args.rows.now c.args.order.now c.args.count c.requires.2 c.in-Some.next (omega (arith, c.in-Some.ensures.inside)) (omega arith), c.requires.2.order_long)
 
 pub returns-else-rows-next-ne0 : goal.returns-else-rows-next-ne0
-returns-else-rows-next-ne0 c =
-    let r = drawn c.args.places.now in
+returns-else-rows-next-ne0 g c =
+    let r = g.P.Places.meaning c.args.places.now in
     let live = c.args.live.now in
     let rows = c.args.rows.now in
     let order = c.args.order.now in

@@ -1,9 +1,10 @@
-use Rattle.std.proofs.Common.{ℕ, Option, sym, ◌∙◌, subst}
-use Rattle.synthesis.specs.Marks.{Onward}
+use Rattle.std.proofs.Common.{sym, arith}
 use Rattle.synthesis.proofs.rows.onward.Goals as goal
 
-pub if-marked-requires : goal.if-marked-requires
-if-marked-requires c = λ q e. c.requires c.args.letter q (sym c.following.ensures ∙ e)
+pub bounds-marks-next : goal.bounds-marks-next
+bounds-marks-next g c = omega (arith, c.requires.covered c.args.letter c.in-Some.next (sym (c.in-Some.ensures c.requires.small c.requires.inside)))
 
-pub returns : goal.returns
-returns c = subst (λ (o : Option ℕ). Onward o c.args.marks.now c.if-marked.result) c.following.ensures c.if-marked.ensures
+pub returns-else-marks-next-eq0 : goal.returns-else-marks-next-eq0
+returns-else-marks-next-eq0 g c =
+    let e = sym (c.in-Some.ensures c.requires.small c.requires.inside) in
+    record { goes = e; inside = c.requires.covered c.args.letter c.in-Some.next e; marked = omega arith }

@@ -1,6 +1,5 @@
 use Rattle.std.proofs.Common.{◌≡◌, ℕ, length, sym, ◌∙◌, subst, arith}
 use Rattle.letters.specs.Letters.{end}
-use Rattle.synthesis.specs.Drawn.{drawn}
 use Rattle.synthesis.proofs.Letters.{not_end}
 use Rattle.synthesis.proofs.Marking.{marked_within}
 use Rattle.synthesis.proofs.Paths.{onward_some, onward_none}
@@ -8,11 +7,11 @@ use Rattle.synthesis.proofs.Weighing.{Least, here_covers, lower, owed_none, leas
 use Rattle.synthesis.proofs.weights.owed_at.Goals as goal
 
 pub onward-requires : goal.onward-requires
-onward-requires c = here_covers (drawn c.args.places.now) c.args.letters.now c.args.rows.now c.requires.0 c.requires.1 c.args.place c.requires.3
+onward-requires g c = here_covers (g.P.Places.meaning c.args.places.now) c.args.letters.now c.args.rows.now c.requires.0 c.requires.1 c.args.place c.requires.3
 
 pub owed-by-least-requires : goal.owed-by-least-requires
-owed-by-least-requires c =
-    let r = drawn c.args.places.now in
+owed-by-least-requires g c =
+    let r = g.P.Places.meaning c.args.places.now in
     let inside = marked_within c.args.rows.now c.args.place c.requires.3 in (
       here_covers r c.args.letters.now c.args.rows.now c.requires.0 c.requires.1 c.args.place c.requires.3,
       omega (arith, c.requires.1.long, c.requires.2.long),
@@ -22,12 +21,12 @@ owed-by-least-requires c =
     )
 
 pub loop-letter-preserved : goal.loop-letter-preserved
-loop-letter-preserved c = least_more _ _ _ _ _ _ _ _ c.loop-letter.invariant c.owed-by-least.ensures.lower c.owed-by-least.ensures.from c.owed-by-least.ensures.at
+loop-letter-preserved g c = least_more _ _ _ _ _ _ _ _ c.loop-letter.invariant c.owed-by-least.ensures.lower c.owed-by-least.ensures.from c.owed-by-least.ensures.at
 
 pub returns-then-is-some : goal.returns-then-is-some
-returns-then-is-some c =
-    let r = drawn c.args.places.now in
-    let x = onward_some (r.next c.args.place end) c.args.rows.now c.onward.result c.onward.ensures (sym c.is-some.ensures ∙ c.if-is-some.true) in
+returns-then-is-some g c =
+    let r = g.P.Places.meaning c.args.places.now in
+    let x = onward_some r c.args.rows.now c.args.place end c.onward.result c.onward.ensures (sym c.is-some.ensures ∙ c.if-is-some.true) in
     record {
       low = λ h. omega arith;
       found = λ h. owed_none r c.args.letters.now c.args.rows.now c.requires.0 c.requires.1 c.args.place c.requires.3 x.0 x.1.goes x.1.marked;
@@ -35,11 +34,11 @@ returns-then-is-some c =
     }
 
 pub returns : goal.returns
-returns c =
-    let r = drawn c.args.places.now in
+returns g c =
+    let r = g.P.Places.meaning c.args.places.now in
     let all : c.loop-letter.letter-index ≡ length c.args.letters.now = omega arith in
     let a : Least r c.args.letters.now c.args.rows.now c.args.place c.args.owed.now c.loop-letter.least (length c.args.letters.now) = subst (λ (j : ℕ). Least r c.args.letters.now c.args.rows.now c.args.place c.args.owed.now c.loop-letter.least j) all c.loop-letter.invariant in
-    let nay = onward_none (r.next c.args.place end) c.args.rows.now c.onward.result c.onward.ensures (sym c.is-some.ensures ∙ c.if-is-some.false) in
+    let nay = onward_none r c.args.rows.now c.args.place end c.onward.result c.onward.ensures (sym c.is-some.ensures ∙ c.if-is-some.false) in
     record {
       low = owed_low r c.args.letters.now c.args.rows.now c.requires.0 c.requires.1 c.args.place c.requires.3 c.args.owed.now c.requires.2 c.loop-letter.least a;
       found = owed_found r c.args.letters.now c.args.rows.now c.requires.0 c.requires.1 c.args.place c.requires.3 c.args.owed.now c.requires.2 c.loop-letter.least a nay;

@@ -1,12 +1,11 @@
 use Rattle.std.proofs.Common.{◌≡◌, ℕ, length, subst, arith}
-use Rattle.synthesis.specs.Drawn.{drawn}
 use Rattle.synthesis.proofs.Marking.{marked_within}
 use Rattle.synthesis.proofs.Weighing.{Longest, here_covers, lower, longest_more, span_low, span_found}
 use Rattle.synthesis.proofs.weights.span_at.Goals as goal
 
 pub span-by-longest-requires : goal.span-by-longest-requires
-span-by-longest-requires c =
-    let r = drawn c.args.places.now in
+span-by-longest-requires g c =
+    let r = g.P.Places.meaning c.args.places.now in
     let inside = marked_within c.args.rows.now c.args.place c.requires.3 in (
       here_covers r c.args.letters.now c.args.rows.now c.requires.0 c.requires.1 c.args.place c.requires.3,
       omega (arith, c.requires.1.long, c.requires.2.long),
@@ -16,11 +15,11 @@ span-by-longest-requires c =
     )
 
 pub loop-letter-preserved : goal.loop-letter-preserved
-loop-letter-preserved c = longest_more _ _ _ _ _ _ _ _ c.loop-letter.invariant c.span-by-longest.ensures.higher c.span-by-longest.ensures.from c.span-by-longest.ensures.at
+loop-letter-preserved g c = longest_more _ _ _ _ _ _ _ _ c.loop-letter.invariant c.span-by-longest.ensures.higher c.span-by-longest.ensures.from c.span-by-longest.ensures.at
 
 pub returns : goal.returns
-returns c =
-    let r = drawn c.args.places.now in
+returns g c =
+    let r = g.P.Places.meaning c.args.places.now in
     let all : c.loop-letter.letter-index ≡ length c.args.letters.now = omega arith in
     let a : Longest r c.args.letters.now c.args.rows.now c.args.place c.args.span.now c.loop-letter.longest (length c.args.letters.now) = subst (λ (j : ℕ). Longest r c.args.letters.now c.args.rows.now c.args.place c.args.span.now c.loop-letter.longest j) all c.loop-letter.invariant in
     record {

@@ -1,14 +1,13 @@
 use Rattle.std.proofs.Common.{◌<◌, arith}
 use Rattle.std.proofs.lemmas.Bool.{false≢true}
-use Rattle.tables.specs.Tabled.{no_row}
-use Rattle.synthesis.specs.Drawn.{drawn}
+use Rattle.rules.specs.Tabled.{no_row}
 use Rattle.synthesis.specs.Marks.{Marked}
 use Rattle.synthesis.proofs.Weighing.{owes_skip, owes_more, spans_skip, spans_more}
 use Rattle.synthesis.proofs.weights.weigh.Goals as goal
 use Rattle.synthesis.proofs.weights.weigh.Goals.{then-rows-place-ne0+else-least, else-rows-place-ne0}
 
 pub returns-then-least : goal.returns-then-least
-returns-then-least c =
+returns-then-least g c =
     let k : Marked c.args.rows.now c.loop-place.place = omega arith in
     record {
       owes = λ e. absurd (false≢true e);
@@ -17,9 +16,9 @@ returns-then-least c =
     }
 
 pub loop-place-preserved : goal.loop-place-preserved
-loop-place-preserved c = elim c.if-rows-place-ne0.branch [
+loop-place-preserved g c = elim c.if-rows-place-ne0.branch [
   | then-rows-place-ne0+else-least w ↦
-      let h : c.loop-place.place < (drawn c.args.places.now).size = omega arith in
+      let h : c.loop-place.place < (g.P.Places.meaning c.args.places.now).size = omega (arith, c.size-place-end.ensures, c.requires.0.small) in
       let v : w.owed-at-least.result < no_row = omega arith in
       rw (w.owed-is, w.span-is) (
         owes_more _ _ _ _ _ c.loop-place.invariant.0 h (w.owed-at-least.ensures.found v) (w.owed-at-least.ensures.low v),

@@ -1,7 +1,0 @@
-use Rattle.enforcer.proofs.Files.{enforces}
-use Rattle.enforcer.proofs.enforce.enforce.Goals as goal
-
-pub returns : goal.returns
-returns c =
-    enforces c.args.file.now c.args.table.now c.args.work.now c.synthesize.new.table c.synthesize.new.work c.new-alphabet.result c.synthesize.new.alphabet c.in-ok-rows.rows c.in-ok-rows.ensures
-    c.in-ok-rule.rule c.args.limit c.args.calls.now c.run-under.result c.in-ok-rule.ensures.exact c.run-under.ensures

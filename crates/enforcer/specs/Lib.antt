@@ -1,4 +1,0 @@
-pub mod Enforcement
-pub mod Faults
-pub mod Limited
-pub mod Offers

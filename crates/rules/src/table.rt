@@ -1,0 +1,254 @@
+ghost use Rattle.std.specs.Prelude.{◌≡◌};
+ghost use Rattle.letters.specs.Declarations.{letters_of};
+ghost use Rattle.rules.specs.Valued.{meaning};
+ghost use Rattle.rules.specs.Tabled.{entry, amount, cell, row_owed, largest};
+ghost use Rattle.rules.specs.Rows.{all_below, keeps_after, one_less, leads_on, keeps_end, keeps_cells, keeps_row};
+ghost use Rattle.rules.specs.Tables.{table_rule, TableMade, TableLawful};
+
+use crate::fault::{MOST_PLACES, RuleFault};
+use crate::rule::{MOST_SPAN, Rule};
+use letters::alphabet::{Alphabet, index_of};
+use letters::letter::{END, Letter, may_insert};
+
+/// What a cell holds where its letter is not admitted.
+pub const NO_ROW: u16 = 65_535;
+
+/// The columns after the letters: owed, span and lead.
+const LAST_COLUMNS: usize = 3;
+
+/// Rows in a memory, one after the other: a cell for each letter in order, then owed, span and lead. Each row is a place.
+#[derive(Clone, Copy)]
+pub struct Table<'a> {
+    letters: &'a [Letter],
+    memory: &'a [u16],
+    rows: u32,
+    most: u32,
+}
+
+impl<'a> Table<'a> {
+    /// The rule of the memory's first rows; the memory may hold any numbers.
+    pub fn new(
+        alphabet: &'a Alphabet,
+        memory: &'a [u16],
+        rows: usize,
+    ) -> Result<Table<'a>, RuleFault>
+        ensures exact { TableMade (letters_of alphabet.now) memory.now rows result }
+        ensures lawful { TableLawful result }
+    {
+        if rows as u64 > MOST_PLACES {
+            return Err(RuleFault::Places);
+        }
+        let letters = alphabet.letters();
+        if rows == 0 || rows * (letters.len() + LAST_COLUMNS) > memory.len() {
+            return Err(RuleFault::Rows);
+        }
+        let rows = rows as u32;
+        let table = Table {
+            letters,
+            memory,
+            rows,
+            most: 0,
+        };
+        if !table.keeps_rows() {
+            return Err(RuleFault::Rows);
+        }
+        Ok(Table {
+            letters,
+            memory,
+            rows,
+            most: table.largest_owed(),
+        })
+    }
+
+    /// The number in a column of a row, or none where that lies past the memory.
+    fn entry(&self, row: u32, column: usize) -> Option<u16>
+        ensures { result ≡ entry self.now.letters.now self.now.memory.now row column }
+    {
+        let width = self.letters.len() + LAST_COLUMNS;
+        let index = row as u128 * width as u128 + column as u128;
+        if index < self.memory.len() as u128 {
+            Some(self.memory[index as usize])
+        } else {
+            None
+        }
+    }
+
+    /// The number in a column of a row, 0 past the memory.
+    fn amount(&self, row: u32, column: usize) -> u32
+        ensures { result ≡ amount self.now.letters.now self.now.memory.now row column }
+    {
+        self.entry(row, column).unwrap_or(0) as u32
+    }
+
+    /// The row that a cell names.
+    fn cell(&self, row: u32, column: usize) -> Option<u32>
+        ensures { result ≡ cell self.now.letters.now self.now.memory.now row column }
+    {
+        match self.entry(row, column) {
+            Some(named) if named != NO_ROW => Some(named as u32),
+            _ => None,
+        }
+    }
+
+    /// What is owed at a row.
+    fn owed(&self, row: u32) -> u32
+        ensures { result ≡ row_owed self.now.letters.now self.now.memory.now row }
+    {
+        self.amount(row, self.letters.len())
+    }
+
+    /// The largest owed of the rows.
+    fn largest_owed(&self) -> u32
+        ensures { result ≡ largest (row_owed self.now.letters.now self.now.memory.now) self.now.rows }
+    {
+        let mut most = 0;
+        for row in 0..self.rows {
+            most = self.owed(row).max(most);
+        }
+        most
+    }
+
+    /// Whether what follows a place after the letter of a column keeps the laws.
+    fn keeps_cell(&self, place: u32, letter: Letter, column: usize) -> bool
+        ensures { result ≡ keeps_after (meaning table_rule self.now) place letter (cell self.now.letters.now self.now.memory.now place column) }
+    {
+        match self.cell(place, column) {
+            None => true,
+            Some(after) => {
+                self.is_live(after)
+                    && (letter == END || self.span_at(after) < self.span_at(place))
+                    && (!may_insert(letter)
+                        || self.owed_at(place) as u64 <= self.owed_at(after) as u64 + 1)
+            }
+        }
+    }
+
+    /// Whether the letters of the alphabet keep the laws at a place.
+    fn keeps_cells(&self, place: u32) -> bool
+        ensures { result ≡ keeps_cells (meaning table_rule self.now) self.now.letters.now self.now.memory.now place }
+    {
+        for (column, letter) in self.letters.iter().enumerate() {
+            if !self.keeps_cell(place, *letter, column) {
+                return false;
+            }
+        }
+        true
+    }
+
+    /// Whether a lead is insertable and brings the end one letter nearer.
+    fn leads_on(&self, place: u32, lead: Option<Letter>) -> bool
+        ensures { result ≡ leads_on (meaning table_rule self.now) place lead }
+    {
+        let Some(letter) = lead else {
+            return false;
+        };
+        if !may_insert(letter) {
+            return false;
+        }
+        match self.following(place, letter) {
+            Some(after) => self.owed_at(after) as u64 + 1 == self.owed_at(place) as u64,
+            None => false,
+        }
+    }
+
+    /// Whether the end is admitted exactly where nothing is owed, and elsewhere the lead leads to it.
+    fn keeps_end(&self, place: u32) -> bool
+        ensures { result ≡ keeps_end (meaning table_rule self.now) place }
+    {
+        let owed = self.owed_at(place);
+        if self.following(place, END).is_some() {
+            owed == 0
+        } else {
+            owed > 0 && self.leads_on(place, self.lead_at(place))
+        }
+    }
+
+    /// Whether a row keeps the laws.
+    fn keeps_row(&self, place: u32) -> bool
+        ensures { result ≡ keeps_row (meaning table_rule self.now) self.now.letters.now self.now.memory.now place }
+    {
+        self.span_at(place) <= MOST_SPAN && self.keeps_end(place) && self.keeps_cells(place)
+    }
+
+    /// Whether every row keeps the laws.
+    fn keeps_rows(&self) -> bool
+        ensures { result ≡ all_below (keeps_row (meaning table_rule self.now) self.now.letters.now self.now.memory.now) self.now.rows }
+    {
+        for row in 0..self.rows {
+            if !self.keeps_row(row) {
+                return false;
+            }
+        }
+        true
+    }
+}
+
+impl<'a> Rule for Table<'a> {
+    ghost count = { table_rule.count };
+
+    ghost start = { table_rule.start };
+
+    ghost most = { table_rule.most };
+
+    ghost live = { table_rule.live };
+
+    ghost next = { table_rule.next };
+
+    ghost owed = { table_rule.owed };
+
+    ghost span = { table_rule.span };
+
+    ghost lead = { table_rule.lead };
+
+    fn place_count(&self) -> u32 {
+        self.rows
+    }
+
+    fn start_place(&self) -> u32 {
+        0
+    }
+
+    fn most_owed(&self) -> u32 {
+        self.most
+    }
+
+    fn is_live(&self, place: u32) -> bool {
+        place < self.rows
+    }
+
+    fn following(&self, place: u32, letter: Letter) -> Option<u32> {
+        if place >= self.rows {
+            return None;
+        }
+        let column = index_of(self.letters, letter)?;
+        self.cell(place, column)
+    }
+
+    fn owed_at(&self, place: u32) -> u32 {
+        if place < self.rows {
+            self.owed(place)
+        } else {
+            0
+        }
+    }
+
+    fn span_at(&self, place: u32) -> u32 {
+        if place < self.rows {
+            self.amount(place, self.letters.len() + 1)
+        } else {
+            0
+        }
+    }
+
+    fn lead_at(&self, place: u32) -> Option<Letter> {
+        if place >= self.rows || self.owed(place) == 0 {
+            return None;
+        }
+        let lead = self.entry(place, self.letters.len() + 2)?;
+        if lead <= Letter::MAX as u16 {
+            Some(lead as Letter)
+        } else {
+            None
+        }
+    }
+}

@@ -1,3 +1,0 @@
-pub mod Below
-pub mod Positions
-pub mod Tabling

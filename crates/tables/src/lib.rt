@@ -1,2 +1,0 @@
-//! The table rule: rows in a memory, read as a rule.
-pub mod table;

@@ -1,11 +1,10 @@
 -- Reading goes on record by record, and what it hands out lies in the file in order.
-use Rattle.std.proofs.Common.{◌≡◌, ℕ, zero, suc, ◌+◌, ◌-◌, ◌<◌, ◌≤◌, Bool, true, false, cond, ltb, List, [], ◌∷◌, length, get_or, take, drop, Some, None, Ok, Err, Option, Result, sym, refl, ap, ◌∙◌, subst, add_assoc, arith, length-drop, get_or-drop, drop-drop, le-ltb, lt-ltb}
+use Rattle.std.proofs.Common.{◌≡◌, ℕ, zero, suc, ◌+◌, ◌<◌, ◌≤◌, Bool, true, false, cond, ltb, List, length, take, drop, Some, None, Ok, Err, Option, Result, sym, refl, ap, ◌∙◌, subst, add_assoc, arith, length-drop, get_or-drop, drop-drop}
 use Rattle.records.specs.declared.fault.ReadFault.{ReadFault}
 use Rattle.records.specs.declared.fault.ReadFault.TheVariants.{TooLong}
 use Rattle.records.specs.declared.record.Record.{Record}
-use Rattle.records.specs.Faults.{read_report}
 use Rattle.records.specs.Records.{most_bytes, header_bytes, two_bytes, body_of}
-use Rattle.records.specs.Readings.{Item, bytes_of, Found, Over, Holds, Refused, found_in, found_at, Reading, ended, with_item, on_found, read_most, reading_at, reading, Lie, stop_of, Whole}
+use Rattle.records.specs.Readings.{bytes_of, Found, Over, Holds, Refused, found_in, found_at, Reading, ended, with_item, on_found, read_most, reading_at, Lie, stop_of, Whole}
 use Rattle.records.specs.Readers.{item_of, told_record, told, past, Hands}
 use Rattle.records.proofs.Found.{facts, Facts, Front}
 

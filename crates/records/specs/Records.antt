@@ -1,5 +1,5 @@
 -- Records: the body's length in two bytes, the kind in two bytes, then the body; every number has its lower byte first.
-use Rattle.std.specs.Prelude.{ℕ, ◌+◌, ◌*◌, ◌%◌, Bool, true, false, cond, ◌&&◌, List, ◌==◌, nat_le, nat_lt, slice_index}
+use Rattle.std.specs.Prelude.{ℕ, ◌+◌, ◌*◌, ◌%◌, Bool, cond, ◌&&◌, List, ◌==◌, nat_le, nat_lt, slice_index}
 use Rattle.records.specs.declared.record.Record.{Record}
 use Rattle.records.specs.declared.record.Record.TheVariants.{Letter, Nothing, Choice, Sequence, Both, Lap, All}
 

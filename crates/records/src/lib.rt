@@ -1,4 +1,6 @@
 //! The records of a property file, and their reader.
+#![tactic(auto)]
+
 pub mod body;
 pub mod fault;
 pub mod reader;

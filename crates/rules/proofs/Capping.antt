@@ -2,7 +2,7 @@
 use Rattle.std.proofs.Common.{◌≡◌, ℕ, ◌+◌, ◌-◌, ◌*◌, ◌/◌, ◌%◌, ◌<◌, ◌≤◌, min, Bool, true, false, cond, ◌&&◌, eqb, ltb, leb, ◌⊎◌, is_some, Some, None, Option, sym, refl, ap, ◌∙◌, subst, inl, inr, ⊎_elim, mod-lt, div-add-mod', arith}
 use lib.Arith.{digits_lt, digits_div, digits_mod}
 use Rattle.std.proofs.lemmas.Bool.{leb-true, le-leb, ltb-true, lt-ltb, eqb-true, ne_eqb, and_parts, and_from, cond-true, cond-false}
-use Rattle.letters.specs.Letters.{letter, end, insertable}
+use Rattle.letters.specs.Letters.{end, insertable}
 use Rattle.rules.specs.Meaning.{Meaning, Dead, Leads, Meant, Laws, Lawful, most_places}
 use Rattle.rules.specs.Capped.{cap_live, cap_act, cap_end, cap_next, capped_with, capped, Same}
 use Rattle.rules.proofs.Follows.{none_some}

@@ -5,7 +5,7 @@ use Rattle.letters.specs.Letters.{letter, end, insertable}
 use Rattle.letters.specs.Alphabets.{position, each_a_letter, ascending_from}
 use Rattle.rules.specs.Lists.{and_then}
 use Rattle.rules.specs.Meaning.{Meaning, Dead, Leads, Laws, Lawful, most_places, most_span}
-use Rattle.rules.specs.Tabled.{entry, cell, row_after, row_owed, row_lead, held_letter, tabled_with, tabled, largest}
+use Rattle.rules.specs.Tabled.{entry, cell, row_after, row_owed, row_lead, held_letter, tabled_with, tabled}
 use Rattle.rules.specs.Rows.{keeps_after, one_less, leads_on, keeps_end, keeps_cell, keeps_cells, keeps_row, all_below}
 use Rattle.rules.proofs.Below.{all_decides, largest_over}
 use Rattle.rules.proofs.Capping.{some_cond}

@@ -1,4 +1,6 @@
 //! Rules over letters: what a rule is, the laws that it keeps, and the rules that are made here.
+#![tactic(auto)]
+
 pub mod cap;
 pub mod count;
 pub mod fault;

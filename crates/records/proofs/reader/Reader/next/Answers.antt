@@ -1,9 +1,9 @@
-use Rattle.std.proofs.Common.{◌≡◌, ℕ, ◌+◌, ◌≤◌, List, length, drop, Some, None, Ok, Option, sym, refl, ap, ◌∙◌, arith, length-drop}
+use Rattle.std.proofs.Common.{◌≡◌, ℕ, ◌+◌, List, length, Some, None, Ok, sym, refl, ap, ◌∙◌, arith, length-drop}
 use Rattle.std.proofs.lemmas.Result.{err_from_is_err_and}
 use Rattle.records.specs.declared.record.Record.{Record}
-use Rattle.records.specs.Records.{header_bytes, body_of}
+use Rattle.records.specs.Records.{header_bytes}
 use Rattle.records.specs.Readings.{found_at, found_in, Refused, bytes_of}
-use Rattle.records.specs.Readers.{told, told_record, item_of, past}
+use Rattle.records.specs.Readers.{told, item_of, past}
 use Rattle.records.proofs.Found.{over}
 use Rattle.records.proofs.Stepwise.{hands, ends_within}
 use Rattle.records.proofs.reader.Reader.next.Goals as goal
@@ -16,25 +16,25 @@ returns-then-at-self c =
     let moved : at ≡ past at (found_at file at) = ap (past at) (sym e) in
     record { found = sym e; moved = moved; kept = refl; hands = hands file at at (Ok None) (sym e) moved }
 
-pub first-record-requires : goal.first-record-requires
-first-record-requires c = omega (arith, ap length c.from.ensures, length-drop c.args.self.now.at c.args.self.now.file.now)
+pub first_record-requires : goal.first_record-requires
+first_record-requires c = omega (arith, ap length c.from.ensures, length-drop c.args.self.now.at c.args.self.now.file.now)
 
-pub returns-in-err-record : goal.returns-in-err-record
+pub returns-in_err-record : goal.returns-in_err-record
 unfolding found_at
-returns-in-err-record c =
+returns-in_err-record c =
     let file : List ℕ = c.args.self.now.file.now in
     let at : ℕ = c.args.self.now.at in
-    let p = err_from_is_err_and c.from-residual.result c.from-residual.ensures.1 in
-    let e = c.in-err-record.ensures ∙ ap (λ rest. found_in rest at) c.from.ensures in
+    let p = err_from_is_err_and c.from_residual.result c.from_residual.ensures.1 in
+    let e = c.in_err-record.ensures ∙ ap (λ rest. found_in rest at) c.from.ensures in
     let found = ap told p.1 ∙ ap Refused p.2 ∙ e in
     let moved : at ≡ past at (found_at file at) = ap (past at) e in
-    record { found = found; moved = moved; kept = refl; hands = hands file at at c.from-residual.result found moved }
+    record { found = found; moved = moved; kept = refl; hands = hands file at at c.from_residual.result found moved }
 
-pub overflow-add-self-2 : goal.overflow-add-self-2
+pub overflow_add-self-2 : goal.overflow_add-self-2
 unfolding found_at
-overflow-add-self-2 c =
-    let e = c.in-ok-record.ensures ∙ ap (λ rest. found_in rest c.args.self.now.at) c.from.ensures in
-    let h = ends_within c.args.self.now.file.now c.args.self.now.at c.in-ok-record.record e in
+overflow_add-self-2 c =
+    let e = c.in_ok-record.ensures ∙ ap (λ rest. found_in rest c.args.self.now.at) c.from.ensures in
+    let h = ends_within c.args.self.now.file.now c.args.self.now.at c.in_ok-record.record e in
     omega (arith, h, ap length c.body.ensures)
 
 pub returns : goal.returns
@@ -42,8 +42,8 @@ unfolding found_at
 returns c =
     let file : List ℕ = c.args.self.now.file.now in
     let at : ℕ = c.args.self.now.at in
-    let e = c.in-ok-record.ensures ∙ ap (λ rest. found_in rest at) c.from.ensures in
-    let item : Record = c.in-ok-record.record in
+    let e = c.in_ok-record.ensures ∙ ap (λ rest. found_in rest at) c.from.ensures in
+    let item : Record = c.in_ok-record.record in
     let long : at + header_bytes + length c.body.result.now ≡ at + bytes_of (item_of (item, at)) = omega (arith, ap length c.body.ensures) in
     let moved : at + header_bytes + length c.body.result.now ≡ past at (found_at file at) = long ∙ ap (past at) e in
     record { found = e; moved = moved; kept = refl; hands = hands file at _ (Ok (Some (item, at))) e moved }

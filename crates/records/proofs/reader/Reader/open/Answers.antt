@@ -1,4 +1,4 @@
-use Rattle.std.proofs.Common.{length, refl, arith, le-ltb, lt-ltb}
+use Rattle.std.proofs.Common.{length, refl, arith, le-ltb}
 use Rattle.records.specs.Records.{most_bytes}
 use Rattle.records.proofs.Stepwise.{whole_file}
 use Rattle.records.proofs.reader.Reader.open.Goals as goal

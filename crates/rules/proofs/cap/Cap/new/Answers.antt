@@ -12,8 +12,8 @@ pub returns : goal.returns
 returns g c =
     let m = meaning g.R.Rule c.args.below in
     let k = c.args.k in
-    let under : m.most ≤ k = omega (arith, c.most-owed.ensures) in
-    let small : m.count * (k + 1) ≤ most_places = omega (arith, ap (λ (n : ℕ). n * (k + 1)) c.place-count.ensures) in
+    let under : m.most ≤ k = omega (arith, c.most_owed.ensures) in
+    let small : m.count * (k + 1) ≤ most_places = omega (arith, ap (λ (n : ℕ). n * (k + 1)) c.place_count.ensures) in
     record {
       exact = search rules;
       lawful = λ l. cap_lawful cut keeps m k l under small;

@@ -4,8 +4,8 @@ use Rattle.std.proofs.lemmas.Bool.{lt-ltb, le-ltb, cond-true, cond-false}
 use Rattle.rules.specs.Tabled.{entry, width}
 use Rattle.rules.proofs.table.Table.entry.Goals as goal
 
-pub overflow-add-index : goal.overflow-add-index
-overflow-add-index c =
+pub overflow_add-index : goal.overflow_add-index
+overflow_add-index c =
     let wide : width c.args.self.now.letters.now ≤ 2 ^ 65 = omega arith in
     let low : c.args.row ≤ 2 ^ 32 = omega arith in
     omega (arith, mul-le c.args.row (width c.args.self.now.letters.now) (2 ^ 32) (2 ^ 65) low wide)

@@ -8,14 +8,14 @@ use Rattle.rules.proofs.table.Table.keeps_cells.Goals as goal
 pub loop-column-init : goal.loop-column-init
 loop-column-init c = all_none _
 
-pub returns-then-not-keeps-cell : goal.returns-then-not-keeps-cell
-returns-then-not-keeps-cell c =
+pub returns-then-not-keeps_cell : goal.returns-then-not-keeps_cell
+returns-then-not-keeps_cell c =
     let t = c.args.self.now in
     let f = keeps_cell (meaning table_rule t) t.letters.now t.memory.now c.args.place in
-    all_fails f c.loop-column.column (length t.letters.now) c.keeps-cell.result (omega arith) c.keeps-cell.ensures c.if-not-keeps-cell.true
+    all_fails f c.loop-column.column (length t.letters.now) c.keeps_cell.result (omega arith) c.keeps_cell.ensures c.if-not-keeps_cell.true
 
 pub loop-column-preserved : goal.loop-column-preserved
 loop-column-preserved c =
     let t = c.args.self.now in
     let f = keeps_cell (meaning table_rule t) t.letters.now t.memory.now c.args.place in
-    all_more f c.loop-column.column c.keeps-cell.result c.loop-column.invariant c.keeps-cell.ensures c.if-not-keeps-cell.false
+    all_more f c.loop-column.column c.keeps_cell.result c.loop-column.invariant c.keeps_cell.ensures c.if-not-keeps_cell.false

@@ -8,14 +8,14 @@ use Rattle.rules.proofs.table.Table.keeps_rows.Goals as goal
 pub loop-row-init : goal.loop-row-init
 loop-row-init c = all_none _
 
-pub returns-then-not-keeps-row : goal.returns-then-not-keeps-row
-returns-then-not-keeps-row c =
+pub returns-then-not-keeps_row : goal.returns-then-not-keeps_row
+returns-then-not-keeps_row c =
     let t = c.args.self.now in
     let f = keeps_row (meaning table_rule t) t.letters.now t.memory.now in
-    all_fails f c.loop-row.row t.rows c.keeps-row.result (omega arith) c.keeps-row.ensures c.if-not-keeps-row.true
+    all_fails f c.loop-row.row t.rows c.keeps_row.result (omega arith) c.keeps_row.ensures c.if-not-keeps_row.true
 
 pub loop-row-preserved : goal.loop-row-preserved
 loop-row-preserved c =
     let t = c.args.self.now in
     let f = keeps_row (meaning table_rule t) t.letters.now t.memory.now in
-    all_more f c.loop-row.row c.keeps-row.result c.loop-row.invariant c.keeps-row.ensures c.if-not-keeps-row.false
+    all_more f c.loop-row.row c.keeps_row.result c.loop-row.invariant c.keeps_row.ensures c.if-not-keeps_row.false

@@ -22,14 +22,14 @@ returns-then-rows-eq0 c =
       lawful = tt;
     }
 
-pub returns-then-not-keeps-rows : goal.returns-then-not-keeps-rows
-returns-then-not-keeps-rows c =
+pub returns-then-not-keeps_rows : goal.returns-then-not-keeps_rows
+returns-then-not-keeps_rows c =
     let a = c.args.alphabet.now in
     let memory = c.args.memory.now in
     let rows = c.args.rows in
-    let test = subst (λ (ls : List ℕ). c.keeps-rows.result ≡ tests ls memory rows 0) c.letters-letters.ensures c.keeps-rows.ensures in
+    let test = subst (λ (ls : List ℕ). c.keeps_rows.result ≡ tests ls memory rows 0) c.letters-letters.ensures c.keeps_rows.ensures in
     record {
-      exact = (omega arith, inr (inr (rows_unlawful (letters_of a) memory rows 0 c.keeps-rows.result (ascends (letters_of a) a.ok) test c.if-not-keeps-rows.true)));
+      exact = (omega arith, inr (inr (rows_unlawful (letters_of a) memory rows 0 c.keeps_rows.result (ascends (letters_of a) a.ok) test c.if-not-keeps_rows.true)));
       lawful = tt;
     }
 
@@ -40,11 +40,11 @@ returns c =
     let rows = c.args.rows in
     let same = c.letters-letters.ensures in
     let wide = ap (λ (ls : List ℕ). rows * width ls) same in
-    let test = subst (λ (ls : List ℕ). c.keeps-rows.result ≡ tests ls memory rows 0) same c.keeps-rows.ensures in
+    let test = subst (λ (ls : List ℕ). c.keeps_rows.result ≡ tests ls memory rows 0) same c.keeps_rows.ensures in
     let one : 0 < rows = omega arith in
-    let few = c.if-rows-gt-MOST-PLACES.false in
-    let lawful' = rows_lawful (letters_of a) memory rows 0 c.keeps-rows.result (each_letter (letters_of a) a.ok) one few test c.if-not-keeps-rows.false in
-    let means = ap (tabled_with c.letters-letters.result.now memory rows) c.largest-owed.ensures ∙ ap (λ (ls : List ℕ). tabled ls memory rows) same in
+    let few = c.if-rows-gt-MOST_PLACES.false in
+    let lawful' = rows_lawful (letters_of a) memory rows 0 c.keeps_rows.result (each_letter (letters_of a) a.ok) one few test c.if-not-keeps_rows.false in
+    let means = ap (tabled_with c.letters-letters.result.now memory rows) c.largest_owed.ensures ∙ ap (λ (ls : List ℕ). tabled ls memory rows) same in
     record {
       exact = record {
         few = few;

@@ -1,14 +1,12 @@
 -- What making a call gives, from the answers of act and close.
-use Rattle.std.proofs.Common.{◌≡◌, ℕ, ◌+◌, ◌≤◌, List, [], ◌∷◌, ◌++◌, length, take, drop, Ok, Err, Result, sym, refl, ap, ◌∙◌, arith, length-append, length-drop}
+use Rattle.std.proofs.Common.{◌≡◌, ℕ, ◌+◌, ◌≤◌, List, [], ◌∷◌, length, take, drop, Ok, Err, Result, sym, refl, ap, ◌∙◌, arith, length-append, length-drop}
 use Rattle.std.proofs.lemmas.List.{take_at}
 use Rattle.letters.specs.Letters.{end}
 use Rattle.rules.specs.Meaning.{Meaning}
-use Rattle.guard.specs.declared.calls.Answer.{Answer}
 use Rattle.guard.specs.declared.calls.Resting.{Resting}
 use Rattle.guard.specs.declared.calls.Running.{Running}
 use Rattle.guard.specs.declared.refusal.Refusal.{Refusal}
-use Rattle.guard.specs.declared.runs.Guard.TheVariants.{AtRest, InCycle}
-use Rattle.guard.specs.declared.runs.Made.{Made}
+use Rattle.guard.specs.declared.runs.Guard.TheVariants.{AtRest}
 use Rattle.guard.specs.declared.runs.Reply.{Reply}
 use Rattle.guard.specs.declared.runs.Reply.TheVariants.{Closed, Refused}
 use Rattle.guard.specs.Calls.{over, Acting, refused, dropped, passed, act_answer, Closing, barred, closed, leads, close_answer, close_place, close_writes, resting}

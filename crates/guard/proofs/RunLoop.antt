@@ -1,5 +1,5 @@
 -- The loop over the calls of a run: what was answered and written so far, and what the calls that are left add.
-use Rattle.std.proofs.Common.{◌≡◌, ℕ, suc, ◌+◌, ◌<◌, ◌≤◌, cond, List, [], ◌∷◌, ◌++◌, map, length, get_or, drop, sym, refl, ap, ◌∙◌, subst, append_assoc, append-nil, add-one, arith, drop-cons}
+use Rattle.std.proofs.Common.{◌≡◌, ℕ, suc, ◌+◌, ◌<◌, ◌≤◌, cond, List, [], ◌∷◌, ◌++◌, map, length, get_or, drop, sym, refl, ap, ◌∙◌, subst, append_assoc, append-nil, add-one, drop-cons}
 use Rattle.std.proofs.lemmas.List.{drop_all}
 use Rattle.rules.specs.Meaning.{Meaning}
 use Rattle.guard.specs.declared.calls.Resting.{Resting}
@@ -11,7 +11,7 @@ use Rattle.guard.specs.declared.runs.Guard.TheVariants.{AtRest, InCycle}
 use Rattle.guard.specs.declared.runs.Reply.{Reply}
 use Rattle.guard.specs.Calls.{resting, Acting, refused, dropped, passed, acting, Closing, barred, closed, closing}
 use Rattle.guard.specs.Runs.{Event, accepted, line}
-use Rattle.guard.specs.Histories.{Step, step, act_step, close_step, event, events, guard_after, started, run_of}
+use Rattle.guard.specs.Histories.{Step, step, act_step, close_step, events, guard_after, started, run_of}
 
 abbrev replies_of : List Event → List Reply
 replies_of es = map (λ (e : Event). e.reply) es

@@ -1,5 +1,5 @@
 -- The events of a run are its calls, each answered where the guard's state takes it.
-use Rattle.std.proofs.Common.{◌≡◌, ℕ, Bool, true, false, List, [], ◌∷◌, ◌++◌, map, sym, refl, ap, ◌∙◌}
+use Rattle.std.proofs.Common.{◌≡◌, ℕ, true, false, List, [], ◌∷◌, map, sym, refl, ap, ◌∙◌}
 use Rattle.rules.specs.Meaning.{Meaning}
 use Rattle.guard.specs.declared.calls.Running.{Running}
 use Rattle.guard.specs.declared.runs.Call.{Call}
@@ -10,7 +10,7 @@ use Rattle.guard.specs.Calls.{Acting, refused, dropped, passed, acting, Closing,
 use Rattle.guard.specs.Histories.{act_step, close_step, step, events, guard_after, started, run_of}
 use Rattle.guard.specs.Runs.{Event, in_cycle, takes, is_call, CallsAreAnswered}
 use Rattle.guard.proofs.Invariant.{split, events_inside}
-use Rattle.guard.proofs.Steps.{inside, made}
+use Rattle.guard.proofs.Steps.{inside}
 
 act_answered : (x : Acting) (g : Running) (a : ℕ) → is_call (act_step x g a).reply ≡ true
 act_answered (refused e) g a = refl

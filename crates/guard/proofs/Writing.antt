@@ -1,5 +1,5 @@
 -- What a close writes, letter by letter.
-use Rattle.std.proofs.Common.{◌≡◌, ℕ, suc, ◌+◌, ◌<◌, ◌≤◌, true, cond, not, leb, List, [], ◌∷◌, ◌++◌, length, drop, set, Ok, Result, sym, refl, ap, ◌∙◌, subst, append_assoc, add-one, arith, length-append, drop-cons}
+use Rattle.std.proofs.Common.{◌≡◌, ℕ, suc, ◌+◌, ◌<◌, true, cond, not, leb, List, [], ◌∷◌, ◌++◌, length, drop, set, Ok, Result, sym, refl, ap, ◌∙◌, subst, append_assoc, add-one, length-append, drop-cons}
 use borrow.Author.Tests.{lt-leb}
 use lib.Seq.{set_at}
 use Rattle.letters.specs.Letters.{end}

@@ -1,5 +1,5 @@
 -- Edit automata, after Lanotte, Merro and Munteanu: an edit allows a letter, suppresses it, or inserts another before it.
-use Rattle.std.specs.Prelude.{◌≡◌, ℕ, Bool, true, false, List, [], ◌∷◌, ◌++◌, Some, None, Option, ◌≢◌}
+use Rattle.std.specs.Prelude.{◌≡◌, ℕ, true, List, [], ◌∷◌, ◌++◌, Some, None, Option, ◌≢◌}
 use Rattle.letters.specs.Letters.{end, insertable}
 
 pub data Edit : Type 0 where

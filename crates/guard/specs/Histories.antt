@@ -1,6 +1,5 @@
 -- The run that a list of calls makes, by what each call comes to.
 use Rattle.std.specs.Prelude.{◌≡◌, ℕ, ◌+◌, List, [], ◌∷◌, map, length, vec_items}
-use Rattle.letters.specs.Letters.{end}
 use Rattle.rules.specs.Meaning.{Meaning}
 use Rattle.guard.specs.declared.calls.Running.{Running}
 use Rattle.guard.specs.declared.runs.Call.{Call}

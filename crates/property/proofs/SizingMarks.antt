@@ -1,11 +1,11 @@
 -- Marking the family of a node: by branches, from the node down.
-use Rattle.std.proofs.Common.{◌≡◌, ℕ, zero, suc, ◌+◌, ◌-◌, ◌*◌, ◌<◌, ◌≤◌, Bool, true, false, ◌||◌, eqb, ltb, ◌⊎◌, List, [], ◌∷◌, ◌++◌, length, get_or, take, drop, set, replicate, sym, refl, ap, ◌∙◌, subst, ap₂, inl, inr, arith, length-set, get_or-set_other, get_or-set_same}
+use Rattle.std.proofs.Common.{◌≡◌, ℕ, zero, suc, ◌+◌, ◌-◌, ◌<◌, ◌≤◌, Bool, true, false, ◌||◌, eqb, ltb, ◌⊎◌, List, ◌∷◌, ◌++◌, length, get_or, set, replicate, sym, refl, ap, ◌∙◌, subst, inl, inr, arith, length-set, get_or-set_other, get_or-set_same}
 use Rattle.std.proofs.lemmas.Bool.{and_parts, and_from, or_cases, or_left, or_right, ltb-true, eqb-true, eqb-false, eq-eqb, cases_eq, false≢true}
 use Rattle.std.proofs.lemmas.Bool.Decides.{same_from_decides}
 use Rattle.records.specs.Records.{two_bytes}
 use Rattle.property.specs.Checks.{every, names}
 use Rattle.property.specs.Nodes.{Node, Nothing, Choice, Sequence, Both, Lap, All, node, Branch, branches}
-use Rattle.property.specs.Sized.{NamesEarlier, MarksAlso, branches_at, named_by}
+use Rattle.property.specs.Sized.{NamesEarlier, MarksAlso, named_by}
 use Rattle.property.specs.Sizes.{Family, itself, branch, some_branch, by_branches, in_family}
 use Rattle.property.proofs.Branching.{one_branch, no_branch}
 use Rattle.property.proofs.Families.{branch_earlier, branch_some, family_more, family_tested, some_branch_true}

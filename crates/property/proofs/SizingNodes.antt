@@ -2,7 +2,6 @@
 use Rattle.std.proofs.Common.{◌≡◌, ℕ, suc, ◌+◌, ◌*◌, ◌<◌, ◌≤◌, max, Bool, true, false, cond, ◌&&◌, ◌||◌, eqb, ltb, ◌⊎◌, List, [], ◌∷◌, length, get_or, set, sym, refl, ap, ◌∙◌, subst, ap₂, inl, inr, add-one, arith, get_or-set_other, get_or-set_same}
 use lib.ListN.{get_or-map}
 use Rattle.std.proofs.lemmas.Bool.{and_parts, and_from, ltb-true, lt-ltb}
-use Rattle.records.specs.Records.{branch_bytes}
 use Rattle.property.specs.declared.node.Node.{Node}
 use Rattle.property.specs.declared.node.Node.TheVariants.{Nothing, Choice, Sequence, Both, Lap, All}
 use Rattle.property.specs.Checks.{every, names}

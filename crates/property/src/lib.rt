@@ -1,4 +1,6 @@
 //! From a property file to a checked property: its alphabet and its nodes, or the fault that it gets.
+#![tactic(auto)]
+
 mod branches;
 pub mod check;
 mod declared;

@@ -1,18 +1,17 @@
-use Rattle.std.proofs.Common.{sym, ap, ◌∙◌, arith}
 use Rattle.std.proofs.lemmas.Result.{err_from_is_err_and}
 use Rattle.rules.specs.Valued.{meaning}
-use Rattle.guard.proofs.RunLoop.{sofar_none, sofar_more, sofar_all}
+use Rattle.guard.proofs.RunLoop.{sofar_more, sofar_all}
 use Rattle.guard.proofs.Theorem.{guarded}
 use Rattle.guard.proofs.runs.run_calls.Goals as goal
 
-pub returns-in-err-guard : goal.returns-in-err-guard
-returns-in-err-guard g c =
-    let p = err_from_is_err_and c.from-residual.result c.from-residual.ensures.1 in
+pub returns-in_err-guard : goal.returns-in_err-guard
+returns-in_err-guard g c =
+    let p = err_from_is_err_and c.from_residual.result c.from_residual.ensures.1 in
     record { told = rw p.1 tt; guarded = guarded (meaning g.R.Rule c.args.rule.now) }
 
 pub loop-call-preserved : goal.loop-call-preserved
 loop-call-preserved g c =
-    let told = c.in-ok-guard.ensures in
+    let told = c.in_ok-guard.ensures in
     sofar_more _ _ _ _ _ _ _ _ _ c.loop-call.invariant c.loop-call-test.true told.guard told.replies told.line
 
 pub returns : goal.returns

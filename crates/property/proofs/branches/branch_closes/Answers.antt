@@ -7,6 +7,6 @@ use Rattle.property.proofs.branches.branch_closes.Goals as goal
 pub returns-then-letter-eq-END : goal.returns-then-letter-eq-END
 returns-then-letter-eq-END c file =
     let named = is_nothing (node (all_meant file c.args.nodes.now) c.args.number) in
-    c.names-nothing.ensures file
-    ∙ sym (ap (λ (t : Bool). t || (eqb c.args.letter end && named)) (sym c.if-names-closing.ensures)
+    c.names_nothing.ensures file
+    ∙ sym (ap (λ (t : Bool). t || (eqb c.args.letter end && named)) (sym c.if-names_closing.ensures)
     ∙ ap (λ (t : Bool). t && named) (eq-eqb c.args.letter end c.if-letter-eq-END.true))

@@ -10,14 +10,14 @@ use Rattle.property.proofs.branches.each_closes.Goals as goal
 at_branch : (file : List ℕ) (ns : List _) (f : ℕ → Bool) (l m n : ℕ) (r b : Bool) → n ≡ m → ((file : List ℕ) → r ≡ branch_closes (all_meant file ns) f (l, n)) → r ≡ b → branch_closes (all_meant file ns) f (l, m) ≡ b
 at_branch file ns f l m n r b e g t = ap (λ k. branch_closes (all_meant file ns) f (l, k)) (sym e) ∙ sym (g file) ∙ t
 
-pub returns-then-not-branch-closes : goal.returns-then-not-branch-closes
-returns-then-not-branch-closes c file =
+pub returns-then-not-branch_closes : goal.returns-then-not-branch_closes
+returns-then-not-branch_closes c file =
     let s = c.in-Some.ensures.steps in
     let left = c.next.new.self.rest.now in
     sym (c.loop-branch.invariant.3 file
     ∙ closes_step c.loop-branch.branch-iterator.rest.now c.in-Some.branch.now left s.1.0 (s.1.1 ∙ c.loop-branch.invariant.2) (all_meant file c.args.nodes.now) (λ m. get_or c.args.closing.now m false)
     ∙ ap (λ (t : Bool). t && each_closes (all_meant file c.args.nodes.now) (λ m. get_or c.args.closing.now m false) (branches left))
-    (at_branch file c.args.nodes.now (λ m. get_or c.args.closing.now m false) (get_or c.in-Some.branch.now 0 0) (two_bytes c.in-Some.branch.now 1) c.two-bytes.result c.branch-closes.result false c.two-bytes.ensures c.branch-closes.ensures c.if-not-branch-closes.true))
+    (at_branch file c.args.nodes.now (λ m. get_or c.args.closing.now m false) (get_or c.in-Some.branch.now 0 0) (two_bytes c.in-Some.branch.now 1) c.two_bytes.result c.branch_closes.result false c.two_bytes.ensures c.branch_closes.ensures c.if-not-branch_closes.true))
 
 pub loop-branch-preserved : goal.loop-branch-preserved
 loop-branch-preserved c =
@@ -30,7 +30,7 @@ loop-branch-preserved c =
       λ file. c.loop-branch.invariant.3 file
           ∙ closes_step c.loop-branch.branch-iterator.rest.now c.in-Some.branch.now left s.1.0 (s.1.1 ∙ c.loop-branch.invariant.2) (all_meant file c.args.nodes.now) (λ m. get_or c.args.closing.now m false)
           ∙ ap (λ (t : Bool). t && each_closes (all_meant file c.args.nodes.now) (λ m. get_or c.args.closing.now m false) (branches left))
-          (at_branch file c.args.nodes.now (λ m. get_or c.args.closing.now m false) (get_or c.in-Some.branch.now 0 0) (two_bytes c.in-Some.branch.now 1) c.two-bytes.result c.branch-closes.result true c.two-bytes.ensures c.branch-closes.ensures c.if-not-branch-closes.false),
+          (at_branch file c.args.nodes.now (λ m. get_or c.args.closing.now m false) (get_or c.in-Some.branch.now 0 0) (two_bytes c.in-Some.branch.now 1) c.two_bytes.result c.branch_closes.result true c.two_bytes.ensures c.branch_closes.ensures c.if-not-branch_closes.false),
     )
 
 pub returns : goal.returns

@@ -6,8 +6,8 @@ use Rattle.property.specs.Nodes.{branches, Choice}
 use Rattle.property.proofs.Branching.{every_step, every_end}
 use Rattle.property.proofs.branches.earlier.Goals as goal
 
-pub returns-then-two-bytes-count : goal.returns-then-two-bytes-count
-returns-then-two-bytes-count c =
+pub returns-then-two_bytes-count : goal.returns-then-two_bytes-count
+returns-then-two_bytes-count c =
     let s = c.in-Some.ensures.steps in
     let left = c.next.new.self.rest.now in
     sym (c.loop-branch.invariant.3

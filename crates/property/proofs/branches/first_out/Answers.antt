@@ -3,13 +3,13 @@ use Rattle.letters.specs.Alphabets.{bare}
 use Rattle.property.proofs.Branching.{out_here, out_later, out_end}
 use Rattle.property.proofs.branches.first_out.Goals as goal
 
-pub returns-then-is-out : goal.returns-then-is-out
-returns-then-is-out c =
+pub returns-then-is_out : goal.returns-then-is_out
+returns-then-is_out c =
     let s = c.in-Some.ensures.steps in
     ap Some s.1
     ∙ sym (c.loop-index.invariant.3
     ∙ out_here c.loop-index.index-iterator.iter.rest.now c.in-Some.branch.now c.next.new.self.iter.rest.now s.0.1.0 (s.0.1.1 ∙ c.loop-index.invariant.2)
-    (c.args.declared.now ++ bare) c.loop-index.least c.loop-index.index-iterator.count (sym c.is-out.ensures ∙ c.if-is-out.true))
+    (c.args.declared.now ++ bare) c.loop-index.least c.loop-index.index-iterator.count (sym c.is_out.ensures ∙ c.if-is_out.true))
 
 pub loop-index-preserved : goal.loop-index-preserved
 loop-index-preserved c =
@@ -20,7 +20,7 @@ loop-index-preserved c =
       s.0.0 ∙ c.loop-index.invariant.2,
       c.loop-index.invariant.3
           ∙ out_later c.loop-index.index-iterator.iter.rest.now c.in-Some.branch.now c.next.new.self.iter.rest.now s.0.1.0 (s.0.1.1 ∙ c.loop-index.invariant.2)
-          (c.args.declared.now ++ bare) c.loop-index.least c.loop-index.index-iterator.count c.next.new.self.count (sym c.is-out.ensures ∙ c.if-is-out.false) s.2,
+          (c.args.declared.now ++ bare) c.loop-index.least c.loop-index.index-iterator.count c.next.new.self.count (sym c.is_out.ensures ∙ c.if-is_out.false) s.2,
     )
 
 pub returns : goal.returns

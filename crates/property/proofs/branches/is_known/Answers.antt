@@ -13,4 +13,4 @@ pub returns-else-contains : goal.returns-else-contains
 returns-else-contains c =
     let e = among_joined c.args.letter c.args.declared.now bare in
     let i : among c.args.letter c.args.declared.now ≡ false = sym c.contains.ensures ∙ c.if-contains.false in
-    c.is-bare.ensures ∙ sym (e ∙ ap (λ (t : Bool). t || among c.args.letter bare) i)
+    c.is_bare.ensures ∙ sym (e ∙ ap (λ (t : Bool). t || among c.args.letter bare) i)

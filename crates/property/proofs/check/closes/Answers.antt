@@ -6,6 +6,6 @@ use Rattle.property.proofs.check.closes.Goals as goal
 
 pub returns-in-Choice : goal.returns-in-Choice
 returns-in-Choice c =
-    c.each-closes.ensures c.args.file.now
-    ∙ ap (λ bs. each_closes (all_meant c.args.file.now c.args.nodes.now) (λ m. get_or c.args.closing.now m false) (branches bs)) c.branches-at.ensures
+    c.each_closes.ensures c.args.file.now
+    ∙ ap (λ bs. each_closes (all_meant c.args.file.now c.args.nodes.now) (λ m. get_or c.args.closing.now m false) (branches bs)) c.branches_at.ensures
     ∙ sym (ap (λ n. closes_by (all_meant c.args.file.now c.args.nodes.now) (λ m. get_or c.args.closing.now m false) (meant c.args.file.now n)) c.in-Choice.is)

@@ -9,7 +9,7 @@ use Rattle.property.proofs.check.lap_closes.Goals as goal
 pub returns-in-Lap : goal.returns-in-Lap
 returns-in-Lap c file nodes e named =
     let earlier : ltb c.in-Lap.a (length nodes) ≡ true = sym (every_one (λ m. ltb m (length nodes)) c.in-Lap.a) ∙ sym (ap (λ n. named_earlier nodes (meant file n)) c.in-Lap.is) ∙ named in
-    c.names-closing.ensures
+    c.names_closing.ensures
     ∙ ap (λ bs. get_or bs c.in-Lap.a false) e
     ∙ closing_at nodes c.in-Lap.a (ltb-true c.in-Lap.a (length nodes) earlier)
     ∙ sym (ap (λ n. lap_closes nodes (meant file n)) c.in-Lap.is)

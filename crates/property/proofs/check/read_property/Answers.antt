@@ -1,4 +1,4 @@
-use Rattle.std.proofs.Common.{◌≡◌, Ok, sym, refl, ap, ◌∙◌, subst, arith, length-take, rules}
+use Rattle.std.proofs.Common.{◌≡◌, Ok, sym, refl, ap, subst, arith, length-take, rules}
 use Rattle.property.specs.Checks.{Parts, checked}
 use Rattle.property.specs.Drafts.{parts_of}
 use Rattle.property.specs.Placed.{answer, AlphabetAfter}
@@ -9,16 +9,16 @@ pub measure-requires : goal.measure-requires
 measure-requires c =
     laid_out c.args.file.now c.fill.new.place (parts_of c.args.file.now c.fill.new.declared c.fill.new.place)
     (omega (arith, length-take c.fill.new.place.count c.fill.new.place.nodes, c.fill.new.place.within))
-    (sym c.in-default.ensures.answer) refl
+    (sym c.in_default.ensures.answer) refl
 
 pub returns : goal.returns
 returns c =
     let parts : Parts = parts_of c.args.file.now c.fill.new.declared c.fill.new.place in
-    let made : checked c.args.file.now ≡ Ok parts = sym c.in-default.ensures.answer in
+    let made : checked c.args.file.now ≡ Ok parts = sym c.in_default.ensures.answer in
     record {
       answer = ap answer (sym made);
       letters = subst (λ r. AlphabetAfter r c.args.alphabet.now c.declare.new.self) (sym made) (search rules);
       nodes = all_held c.args.file.now parts c.fill.new.place c.measure.new.self made refl
-          c.in-default.ensures.closing c.in-default.ensures.last
+          c.in_default.ensures.closing c.in_default.ensures.last
           c.measure.ensures.sizes c.measure.ensures.stored c.measure.ensures.closing c.measure.ensures.last;
     }

@@ -10,19 +10,19 @@ use Rattle.property.specs.Placed.{nodes_in, closing_in, stored}
 use Rattle.property.proofs.Judging.{letter_barred, letter_taken, not_barred, not_letter, passed_room, passed_earlier, count_meant, checked_node, stored_more, kept_next}
 use Rattle.property.proofs.check.take_on.Goals as goal
 
-pub returns-then-is-barred-next : goal.returns-then-is-barred-next
-returns-then-is-barred-next c =
+pub returns-then-is_barred_next : goal.returns-then-is_barred_next
+returns-then-is_barred_next c =
     let s = parts_of c.args.file.now c.args.declared.now c.args.place.now in
     record {
       judged =
-          letter_barred s c.in-Letter.body.now c.args.at (sym (c.if-is-barred-next.ensures c.args.file.now))
+          letter_barred s c.in-Letter.body.now c.args.at (sym (c.if-is_barred_next.ensures c.args.file.now))
           ∙ sym (ap (λ i. judge s (item_of (i, c.args.at))) c.in-Letter.is);
       kept = c.requires.kept;
     }
 
 pub push-requires : goal.push-requires
 push-requires c =
-    not_barred (parts_of c.args.file.now c.args.declared.now c.args.place.now) (get_or c.in-Letter.body.now 0 0) (sym (c.if-is-barred-next.ensures c.args.file.now))
+    not_barred (parts_of c.args.file.now c.args.declared.now c.args.place.now) (get_or c.in-Letter.body.now 0 0) (sym (c.if-is_barred_next.ensures c.args.file.now))
 
 pub returns-in-Letter : goal.returns-in-Letter
 returns-in-Letter c =
@@ -30,40 +30,40 @@ returns-in-Letter c =
     record {
       judged =
           ap (λ ds. Ok (parts ds (nodes_in c.args.file.now c.args.place.now))) c.push.ensures
-          ∙ letter_taken s c.in-Letter.body.now c.args.at (sym (c.if-is-barred-next.ensures c.args.file.now))
+          ∙ letter_taken s c.in-Letter.body.now c.args.at (sym (c.if-is_barred_next.ensures c.args.file.now))
           ∙ sym (ap (λ i. judge s (item_of (i, c.args.at))) c.in-Letter.is);
       kept = c.requires.kept;
     }
 
-pub returns-in-err-check-node : goal.returns-in-err-check-node
-returns-in-err-check-node c =
-    let p = err_from_is_err_and c.from-residual.result c.from-residual.ensures.1 in
+pub returns-in_err-check_node : goal.returns-in_err-check_node
+returns-in_err-check_node c =
+    let p = err_from_is_err_and c.from_residual.result c.from_residual.ensures.1 in
     record {
       judged =
           ap (λ q. with_parts q (parts_of c.args.file.now c.args.declared.now c.args.place.now)) (p.1 ∙ ap Err p.2)
-          ∙ checked_node (declared_in c.args.declared.now) c.letters.result.now (nodes_in c.args.file.now c.args.place.now) (meant c.args.file.now c.node-of-node.result) (kind_of c.args.item) (body_of c.args.item) c.args.at (Err c.in-err-check-node.field-0.0)
-          (not_letter c.args.item c.in-default.not-Letter) c.letters.ensures.same (c.node-of-node.ensures c.args.file.now c.requires.part) c.in-err-check-node.ensures;
+          ∙ checked_node (declared_in c.args.declared.now) c.letters.result.now (nodes_in c.args.file.now c.args.place.now) (meant c.args.file.now c.node_of-node.result) (kind_of c.args.item) (body_of c.args.item) c.args.at (Err c.in_err-check_node.field-0.0)
+          (not_letter c.args.item c.in_default.not-Letter) c.letters.ensures.same (c.node_of-node.ensures c.args.file.now c.requires.part) c.in_err-check_node.ensures;
       kept = c.requires.kept;
     }
 
 pub push-requires-2 : goal.push-requires-2
 push-requires-2 c =
-    let h : length (nodes_in c.args.file.now c.args.place.now) < most_nodes = passed_room (parts c.letters.result.now (nodes_in c.args.file.now c.args.place.now)) (meant c.args.file.now c.node-of-node.result) c.args.at c.in-ok-check-node.ensures in
+    let h : length (nodes_in c.args.file.now c.args.place.now) < most_nodes = passed_room (parts c.letters.result.now (nodes_in c.args.file.now c.args.place.now)) (meant c.args.file.now c.node_of-node.result) c.args.at c.in_ok-check_node.ensures in
     omega (arith, h, count_meant c.args.file.now (stored c.args.place.now))
 
 pub returns : goal.returns
 returns c =
     let file = c.args.file.now in
-    let more = stored_more file (stored c.push-2.new.self) (stored c.args.place.now) c.node-of-node.result c.push-2.ensures.nodes in
+    let more = stored_more file (stored c.push-2.new.self) (stored c.args.place.now) c.node_of-node.result c.push-2.ensures.nodes in
     record {
       judged =
           ap (λ ns. Ok (parts (declared_in c.args.declared.now) ns)) more
-          ∙ checked_node (declared_in c.args.declared.now) c.letters.result.now (nodes_in c.args.file.now c.args.place.now) (meant c.args.file.now c.node-of-node.result) (kind_of c.args.item) (body_of c.args.item) c.args.at (Ok tt)
-          (not_letter c.args.item c.in-default.not-Letter) c.letters.ensures.same (c.node-of-node.ensures file c.requires.part) c.in-ok-check-node.ensures;
+          ∙ checked_node (declared_in c.args.declared.now) c.letters.result.now (nodes_in c.args.file.now c.args.place.now) (meant c.args.file.now c.node_of-node.result) (kind_of c.args.item) (body_of c.args.item) c.args.at (Ok tt)
+          (not_letter c.args.item c.in_default.not-Letter) c.letters.ensures.same (c.node_of-node.ensures file c.requires.part) c.in_ok-check_node.ensures;
       kept =
-          kept_next (nodes_in file c.args.place.now) (nodes_in file c.push-2.new.self) (closing_in c.args.place.now) (closing_in c.push-2.new.self) (meant file c.node-of-node.result) c.closes-closing.result
-          c.requires.kept (passed_earlier (parts c.letters.result.now (nodes_in c.args.file.now c.args.place.now)) (meant c.args.file.now c.node-of-node.result) c.args.at c.in-ok-check-node.ensures) more c.push-2.ensures.closing
+          kept_next (nodes_in file c.args.place.now) (nodes_in file c.push-2.new.self) (closing_in c.args.place.now) (closing_in c.push-2.new.self) (meant file c.node_of-node.result) c.closes-closing.result
+          c.requires.kept (passed_earlier (parts c.letters.result.now (nodes_in c.args.file.now c.args.place.now)) (meant c.args.file.now c.node_of-node.result) c.args.at c.in_ok-check_node.ensures) more c.push-2.ensures.closing
           (c.closes-closing.ensures
-          ∙ ap (λ ns. closes_by (all_meant file ns) (λ m. get_or c.closing.result.now m false) (meant file c.node-of-node.result)) c.nodes.ensures.value
-          ∙ ap (λ cs. closes_by (nodes_in file c.args.place.now) (λ m. get_or cs m false) (meant file c.node-of-node.result)) c.closing.ensures);
+          ∙ ap (λ ns. closes_by (all_meant file ns) (λ m. get_or c.closing.result.now m false) (meant file c.node_of-node.result)) c.nodes.ensures.value
+          ∙ ap (λ cs. closes_by (nodes_in file c.args.place.now) (λ m. get_or cs m false) (meant file c.node_of-node.result)) c.closing.ensures);
     }

@@ -8,4 +8,4 @@ returns-then-number-nodes c file =
     le-leb (length c.args.nodes.now) c.args.number (omega arith) ∙ ap is_nothing (sym (node_past file c.args.nodes.now c.args.number (omega arith)))
 
 pub returns-else-number-nodes : goal.returns-else-number-nodes
-returns-else-number-nodes c file = c.is-nothing.ensures file ∙ ap is_nothing (sym (node_meant file c.args.nodes.now c.args.number))
+returns-else-number-nodes c file = c.is_nothing.ensures file ∙ ap is_nothing (sym (node_meant file c.args.nodes.now c.args.number))

@@ -14,7 +14,7 @@ loop-m-preserved c = elim c.if-marked-m.branch [
   | then-marked-m w ↦
       w.total-is
       ∙ w.sum-total.ensures
-      ∙ ap₂ (λ x y. cut (x + y)) c.loop-m.invariant w.weight-of.ensures
+      ∙ ap₂ (λ x y. cut (x + y)) c.loop-m.invariant w.weight_of.ensures
       ∙ marked_more c.args.nodes.now c.args.sizes.now c.args.marked.now c.loop-m.m w.if-marked-m.true
   | else-marked-m w ↦ w.total-is ∙ c.loop-m.invariant ∙ marked_skip c.args.nodes.now c.args.sizes.now c.args.marked.now c.loop-m.m w.if-marked-m.false
 ]

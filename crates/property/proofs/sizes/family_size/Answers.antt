@@ -4,8 +4,8 @@ use Rattle.property.proofs.SizingMarks.{unmarked}
 use Rattle.property.proofs.SizingNodes.{choice_size}
 use Rattle.property.proofs.sizes.family_size.Goals as goal
 
-pub mark-family-requires : goal.mark-family-requires
-mark-family-requires c = record {
+pub mark_family-requires : goal.mark_family-requires
+mark_family-requires c = record {
   laid_out = c.requires.laid_out;
   within = c.requires.within;
   long = omega (arith, c.requires.laid_out.few, c.requires.within);
@@ -13,4 +13,4 @@ mark-family-requires c = record {
 }
 
 pub returns : goal.returns
-returns c start count e = c.add-marked.ensures ∙ choice_size _ _ c.requires.laid_out _ _ c.requires.kept start count _ e c.mark-family.ensures
+returns c start count e = c.add_marked.ensures ∙ choice_size _ _ c.requires.laid_out _ _ c.requires.kept start count _ e c.mark_family.ensures

@@ -4,10 +4,10 @@ use Rattle.letters.specs.Alphabets.{most_declared}
 use Rattle.property.proofs.Lettering.{room, still_lawful}
 use Rattle.property.proofs.declared.Declared.push.Goals as goal
 
-pub invariant-of-self : goal.invariant-of-self
-invariant-of-self c =
+pub invariant_of-self : goal.invariant_of-self
+invariant_of-self c =
     let r : c.args.self.now.count < most_declared = room c.args.self.now.letters c.args.self.now.count c.args.byte (omega arith) c.requires in
-    (omega arith, (still_lawful c.args.self.now.letters c.args.self.now.count c.args.byte (omega arith) c.args.self.now.ok c.requires, tt))
+    record { few = omega arith; ok = still_lawful c.args.self.now.letters c.args.self.now.count c.args.byte (omega arith) c.args.self.now.ok c.requires }
 
 pub returns : goal.returns
 returns c =

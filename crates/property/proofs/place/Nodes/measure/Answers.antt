@@ -12,10 +12,10 @@ returns c =
     let file : List ℕ = c.args.file.now in
     let ns : List Node = stored c.args.self.now in
     let count : length ns ≡ c.args.self.now.count = ap length (sym c.nodes.ensures.value) ∙ c.nodes.ensures.len in
-    let kept : Kept (all_meant file ns) c.fill-sizes.new.sizes (length ns) = subst (λ (xs : List Node). Kept (all_meant file xs) c.fill-sizes.new.sizes (length xs)) c.nodes.ensures.value c.fill-sizes.ensures.kept in
+    let kept : Kept (all_meant file ns) c.fill_sizes.new.sizes (length ns) = subst (λ (xs : List Node). Kept (all_meant file xs) c.fill_sizes.new.sizes (length xs)) c.nodes.ensures.value c.fill_sizes.ensures.kept in
     record {
-      sizes = measured (all_meant file ns) c.fill-sizes.new.sizes c.args.self.now.count (sym count ∙ sym (length-map ns (meant file))) (omega (arith, c.fill-sizes.auto.sizes))
-          (subst (λ k. Kept (all_meant file ns) c.fill-sizes.new.sizes k) count kept);
+      sizes = measured (all_meant file ns) c.fill_sizes.new.sizes c.args.self.now.count (sym count ∙ sym (length-map ns (meant file))) (omega (arith, c.fill_sizes.auto.sizes))
+          (subst (λ k. Kept (all_meant file ns) c.fill_sizes.new.sizes k) count kept);
       stored = refl;
       closing = refl;
       last = refl;

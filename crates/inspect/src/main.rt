@@ -1,6 +1,8 @@
 //! `inspect [FILE ..]` prints a line for each record of a property file (rule.bin where none is named; a missing
 //! file is an empty one), its counts, and of each node its size and whether it closes; or the records before the
 //! first fault, and the refusal. Several files are headed by their names.
+#![tactic(auto)]
+
 use letters::alphabet::Alphabet;
 use letters::letter::{Kind, Letter, read};
 use property::check::read_property;

@@ -1,5 +1,5 @@
 -- A loop of places: it goes on from place to place, letter by letter, and stands at its boundary after each whole lap.
-use Rattle.std.specs.Prelude.{◌≡◌, ℕ, ◌<◌, ◌≤◌, true, List, length, Some, Option, ◌≢◌}
+use Rattle.std.specs.Prelude.{◌≡◌, ℕ, ◌<◌, true, List, Some, Option, ◌≢◌}
 use Rattle.letters.specs.Letters.{end}
 use Rattle.letters.specs.Alphabets.{among}
 use Rattle.rules.specs.Lists.{follow_by}

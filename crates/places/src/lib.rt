@@ -1,3 +1,5 @@
 //! The places of a property: where a list of letters leads.
+#![tactic(auto)]
+
 pub mod places;
 pub mod theorems;

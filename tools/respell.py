@@ -27,11 +27,16 @@ def files(top, ending):
                 yield os.path.join(folder, name)
 
 
+def is_old(name):
+    """Whether a name is in the older spelling: with a dash, or a type with an underscore."""
+    return "-" in name or (name[0].isupper() and "_" in name and not name.isupper())
+
+
 def respelled(name):
-    if "-" not in name:
+    if not is_old(name):
         return name
     if name[0].isupper():
-        return "".join(part[:1].upper() + part[1:] for part in name.split("-"))
+        return "".join(part[:1].upper() + part[1:] for part in re.split("[-_]", name))
     return name.replace("-", "_")
 
 
@@ -66,7 +71,7 @@ def own_names(crates):
         for line in text.split("\n"):
             if re.match(r"(pub )?use ", line):
                 continue
-            names.update(w.group() for w in words_of(line) if "-" in w.group() and w.group() not in foreign)
+            names.update(w.group() for w in words_of(line) if is_old(w.group()) and w.group() not in foreign)
     return names
 
 
@@ -82,7 +87,7 @@ def turned(line, foreign, names, code):
 
     def change(found):
         word, before = found.group(), line[: found.start()]
-        if "-" not in word or word in foreign or word in made:
+        if not is_old(word) or word in foreign or word in made:
             return word
         if code and re.search(r"(?:^|[^\w.'])(?:goal|[a-z])\.$", before):
             return word
@@ -106,7 +111,7 @@ def main():
             if code:
                 goals = set(re.findall(r"(?m)^(?:abbrev |pub |unfoldable )*(\S+) : goal\.", text))
                 mine = set(re.findall(r"(?m)^(?:abbrev |pub |unfoldable )*([\w'-]+) :", text)) - goals
-                here = (names - goals) | {w for w in mine if "-" in w}
+                here = (names - goals) | {w for w in mine if is_old(w)}
             lines = text.split("\n")
             made = {w.group() for line in lines for w in words_of(line) if w.group() not in foreign}
             goals_here = set(re.findall(r"(?m)^(?:abbrev |pub |unfoldable )*(\S+) : goal\.", text)) if code else set()
@@ -119,7 +124,7 @@ def main():
                 else:
                     out.append(turned(line, foreign, here, code))
             for word in made:
-                if "-" in word and word in here and respelled(word) in made:
+                if is_old(word) and word in here and respelled(word) in made:
                     print(f"falls together: {path}: {word} and {respelled(word)}")
             new = "\n".join(out)
             if new != text:

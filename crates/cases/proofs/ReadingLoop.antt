@@ -1,8 +1,8 @@
 -- The loop of a whole reading: records counted so far, and what is left.
-use Rattle.std.proofs.Common.{◌≡◌, ℕ, suc, ◌+◌, ◌-◌, ◌<◌, ◌≤◌, List, length, Some, None, Ok, Err, Option, Result, sym, refl, ap, ◌∙◌, subst, arith}
+use Rattle.std.proofs.Common.{◌≡◌, ℕ, suc, ◌+◌, ◌-◌, ◌<◌, ◌≤◌, List, length, Some, None, Ok, Err, Option, Result, sym, ap, ◌∙◌, subst, arith}
 use Rattle.records.specs.declared.fault.ReadFault.{ReadFault}
 use Rattle.records.specs.declared.record.Record.{Record}
-use Rattle.records.specs.Readings.{Reading, reading, reading_at, ended, with_item}
+use Rattle.records.specs.Readings.{Reading, reading, reading_at, with_item}
 use Rattle.records.specs.Readers.{item_of, Hands, HandsRecord}
 use Rattle.cases.specs.Reading.{outcome, by_fault}
 

@@ -1,7 +1,7 @@
 -- What a whole reading comes to.
-use Rattle.std.specs.Prelude.{ℕ, ◌+◌, List, length, Some, None, Ok, Err, Option, Result}
+use Rattle.std.specs.Prelude.{ℕ, ◌+◌, length, Some, None, Ok, Err, Option, Result}
 use Rattle.records.specs.declared.fault.ReadFault.{ReadFault}
-use Rattle.records.specs.Readings.{Reading, Item}
+use Rattle.records.specs.Readings.{Reading}
 
 abbrev pub by_fault : ℕ → Option ReadFault → Result ℕ ReadFault
 by_fault count None = Ok count

@@ -1,4 +1,6 @@
 //! The larger tests, over all the crates below.
+#![tactic(auto)]
+
 #[cfg(test)]
 mod guard_tests;
 #[cfg(test)]

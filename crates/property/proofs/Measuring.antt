@@ -8,7 +8,7 @@ use Rattle.property.specs.Checks.{Parts, alphabet_of, checked, most_nodes}
 use Rattle.property.specs.Meant.{all_meant}
 use Rattle.property.specs.Nodes as N
 use Rattle.property.specs.Placed.{stored, nodes_in, closing_in, closings, sizes_in, sizes_of, last_offset, PlaceAfter}
-use Rattle.property.specs.Sized.{Kept, Laid_out, cut}
+use Rattle.property.specs.Sized.{Kept, LaidOut, cut}
 use Rattle.property.specs.Sizes.{size}
 use Rattle.property.specs.Sound.{Sound}
 use Rattle.property.proofs.Soundness.{sound, sound_earlier}
@@ -19,7 +19,7 @@ measured ns xs count e h k =
     fill_by_all (λ n. cut (size ns n)) (take count xs) (length ns) 0 (length-take-le count xs h ∙ e)
     (λ m l. get_or-take count xs m 0 (omega arith) ∙ k m (omega arith))
 
-pub laid_out : (file : List ℕ) (place : Nodes) (parts : Parts) → length (stored place) ≤ most_nodes → checked file ≡ Ok parts → parts.nodes ≡ nodes_in file place → Laid_out file (stored place)
+pub laid_out : (file : List ℕ) (place : Nodes) (parts : Parts) → length (stored place) ≤ most_nodes → checked file ≡ Ok parts → parts.nodes ≡ nodes_in file place → LaidOut file (stored place)
 laid_out file place parts few e same = record {
   few = few;
   earlier = sound_earlier (alphabet_of parts) (nodes_in file place) (subst (Sound (alphabet_of parts)) same (sound file parts e));

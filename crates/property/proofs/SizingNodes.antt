@@ -8,7 +8,7 @@ use Rattle.property.specs.Checks.{every, names}
 use Rattle.property.specs.Meant.{meant, all_meant}
 use Rattle.property.specs.Nodes as N
 use Rattle.property.specs.Numbered.{before}
-use Rattle.property.specs.Sized.{Laid_out, Kept, MarksAlso, branches_at, counted, cut, marked_total, named_by}
+use Rattle.property.specs.Sized.{LaidOut, Kept, MarksAlso, branches_at, counted, cut, marked_total, named_by}
 use Rattle.property.specs.Sizes.{by_branches, in_family, size, size_by, some_branch, weight}
 use Rattle.property.proofs.Families.{earlier_at}
 use Rattle.property.proofs.Numbering.{before_lt, by_number_is, lt_or_ge}
@@ -92,7 +92,7 @@ module _ (file : List ℕ) (nodes : List Node) where
       also m
       ∙ sym (ap₂ (λ x y. get_or was m false || (x && by_branches (λ k. eqb k m) y)) here (node_meant n (Choice start count) e))
 
-  module _ (ok : Laid_out file nodes) where
+  module _ (ok : LaidOut file nodes) where
     named_below : (n : ℕ) (x : Node) → get_or nodes n Nothing ≡ x → every (λ m. ltb m n) (names (meant file x)) ≡ true
     named_below n x e = sym (ap (λ y. every (λ m. ltb m n) (names y)) (node_meant n x e)) ∙ earlier_at (all_meant file nodes) ok.earlier n
 

@@ -31,7 +31,7 @@ abbrev pub branches_at : List ℕ → ℕ → ℕ → List (ℕ × ℕ)
 branches_at file start count = N.branches (take (branch_bytes * count) (drop start file))
 
 -- what the nodes of a program have whose sizes are worked out
-pub record Laid_out (file : List ℕ) (nodes : List Node) : Type 0 where
+pub record LaidOut (file : List ℕ) (nodes : List Node) : Type 0 where
   pub few : length nodes ≤ most_nodes
   pub earlier : NamesEarlier (all_meant file nodes)
 

@@ -4,7 +4,7 @@ ghost use Rattle.property.specs.Meant.{all_meant};
 ghost use Rattle.property.specs.Nodes.{branches};
 ghost use Rattle.property.specs.Nodes as N;
 ghost use Rattle.property.specs.Placed.{closing_in, nodes_in, sizes_in, sizes_of, stored};
-ghost use Rattle.property.specs.Sized.{Laid_out, Kept, MarksAlso, FamilyTestIsExact, branches_at, counted, cut, marked_total, named_by};
+ghost use Rattle.property.specs.Sized.{LaidOut, Kept, MarksAlso, FamilyTestIsExact, branches_at, counted, cut, marked_total, named_by};
 ghost use Rattle.property.specs.Sizes.{in_family, size, some_branch};
 
 use crate::branches::{branches_at, two_bytes};
@@ -81,7 +81,7 @@ fn mark_branches(body: &[u8], marked: &mut [bool])
 
 /// Marks the nodes that a node names by branches, if it is marked itself.
 fn mark_named(file: &[u8], nodes: &[Node], n: usize, marked: &mut [bool])
-    requires laid_out { Laid_out file.now nodes.now }
+    requires laid_out { LaidOut file.now nodes.now }
     requires within { n < length nodes.now }
     requires long { n < length marked.old }
     ensures { MarksAlso (λ m. named_by (all_meant file.now nodes.now) marked.old n m) marked.old marked.new }
@@ -95,7 +95,7 @@ fn mark_named(file: &[u8], nodes: &[Node], n: usize, marked: &mut [bool])
 
 /// Marks the family of a node, where nothing is marked.
 fn mark_family(file: &[u8], nodes: &[Node], n: usize, marked: &mut [bool])
-    requires laid_out { Laid_out file.now nodes.now }
+    requires laid_out { LaidOut file.now nodes.now }
     requires within { n < length nodes.now }
     requires long { n < length marked.old }
     requires unmarked { (m : ℕ) → slice_index_or marked.old m false ≡ false }
@@ -125,7 +125,7 @@ fn add_marked(nodes: &[Node], sizes: &[u16], marked: &[bool], end: usize) -> u16
 
 /// The size of a Choice: what the nodes of its family count together, each once.
 fn family_size(file: &[u8], nodes: &[Node], sizes: &[u16], n: usize) -> u16
-    requires laid_out { Laid_out file.now nodes.now }
+    requires laid_out { LaidOut file.now nodes.now }
     requires within { n < length nodes.now }
     requires long { n < length sizes.now }
     requires kept { Kept (all_meant file.now nodes.now) sizes.now n }
@@ -138,7 +138,7 @@ fn family_size(file: &[u8], nodes: &[Node], sizes: &[u16], n: usize) -> u16
 
 /// The size of a node, from the sizes of the earlier ones.
 fn size_of(file: &[u8], nodes: &[Node], sizes: &[u16], n: usize) -> u16
-    requires laid_out { Laid_out file.now nodes.now }
+    requires laid_out { LaidOut file.now nodes.now }
     requires within { n < length nodes.now }
     requires long { n < length sizes.now }
     requires kept { Kept (all_meant file.now nodes.now) sizes.now n }
@@ -155,7 +155,7 @@ fn size_of(file: &[u8], nodes: &[Node], sizes: &[u16], n: usize) -> u16
 
 /// Writes the size of each node as it is kept, and leaves what stands after them.
 pub(crate) fn fill_sizes(file: &[u8], nodes: &[Node], sizes: &mut [u16])
-    requires laid_out { Laid_out file.now nodes.now }
+    requires laid_out { LaidOut file.now nodes.now }
     requires long { length nodes.now ≤ length sizes.old }
     ensures kept { Kept (all_meant file.now nodes.now) sizes.new (length nodes.now) }
     ensures rest { (n : ℕ) → length nodes.now ≤ n → slice_index sizes.new n ≡ slice_index sizes.old n }
@@ -169,7 +169,7 @@ pub(crate) fn fill_sizes(file: &[u8], nodes: &[Node], sizes: &mut [u16])
 impl Nodes {
     /// Works out the sizes of the nodes.
     pub(crate) fn measure(&mut self, file: &[u8])
-        requires { Laid_out file.now (stored self.old) }
+        requires { LaidOut file.now (stored self.old) }
         ensures sizes { sizes_in self.new ≡ sizes_of (nodes_in file.now self.old) }
         ensures stored { stored self.new ≡ stored self.old }
         ensures closing { closing_in self.new ≡ closing_in self.old }

@@ -9,7 +9,7 @@ use Rattle.places.specs.Owing.{LoopWay, LoopOwed, LoopSpan}
 use Rattle.synthesis.specs.Fillable.{Fillable}
 use Rattle.synthesis.specs.Marks.{Marked, Covers}
 use Rattle.synthesis.specs.Numbers.{Rowed}
-use Rattle.synthesis.specs.Weights.{Owes, Spans, Inserts, Goes_on, Lead}
+use Rattle.synthesis.specs.Weights.{Owes, Spans, Inserts, GoesOn, Lead}
 use Rattle.synthesis.proofs.Letters.{among_at, ascends, not_end}
 use Rattle.synthesis.proofs.Paths.{first_step, step_on, live_back}
 use Rattle.synthesis.proofs.Ways.{way_live, owed_live, way_none, way_end, way_more, way_less, owed_same, lead_exists}
@@ -22,8 +22,8 @@ pub record Least (r : Loop) (letters rows : List ℕ) (p : ℕ) (owed : List ℕ
 
 -- and for its span
 pub record Longest (r : Loop) (letters rows : List ℕ) (p : ℕ) (span : List ℕ) (v j : ℕ) : Type 0 where
-  pub found : 0 < v → (l : ℕ) × (q : ℕ) × Goes_on r rows p l q × (v ≡ get_or span q 0 + 1)
-  pub most : (i : ℕ) → i < j → (q : ℕ) → Goes_on r rows p (get_or letters i 0) q → get_or span q 0 + 1 ≤ v
+  pub found : 0 < v → (l : ℕ) × (q : ℕ) × GoesOn r rows p l q × (v ≡ get_or span q 0 + 1)
+  pub most : (i : ℕ) → i < j → (q : ℕ) → GoesOn r rows p (get_or letters i 0) q → get_or span q 0 + 1 ≤ v
 
 module _ (r : Loop) (letters rows : List ℕ) (p : ℕ) where
   pub least_more : (owed : List ℕ) (v j w : ℕ) → Least r letters rows p owed v j → w ≤ v → (w < v → (q : ℕ) × Inserts r rows p (get_or letters j 0) q × (w ≡ get_or owed q 0 + 1))
@@ -33,10 +33,10 @@ module _ (r : Loop) (letters rows : List ℕ) (p : ℕ) where
     least = below_more _ _ (λ i k q x. let z = a.least i k q x in omega arith) at_j;
   }
 
-  pub longest_more : (span : List ℕ) (v j w : ℕ) → Longest r letters rows p span v j → v ≤ w → (v < w → (q : ℕ) × Goes_on r rows p (get_or letters j 0) q × (w ≡ get_or span q 0 + 1))
-      → ((q : ℕ) → Goes_on r rows p (get_or letters j 0) q → get_or span q 0 + 1 ≤ w) → Longest r letters rows p span w (j + 1)
+  pub longest_more : (span : List ℕ) (v j w : ℕ) → Longest r letters rows p span v j → v ≤ w → (v < w → (q : ℕ) × GoesOn r rows p (get_or letters j 0) q × (w ≡ get_or span q 0 + 1))
+      → ((q : ℕ) → GoesOn r rows p (get_or letters j 0) q → get_or span q 0 + 1 ≤ w) → Longest r letters rows p span w (j + 1)
   longest_more span v j w a h from at_j = record {
-    found = λ g. elim (cases_lt v w) [ inl k ↦ let x = from k in (get_or letters j 0, x.0, x.1, x.2) | inr k ↦ let s : v ≡ w = omega arith in subst (λ (y : ℕ). (l : ℕ) × (q : ℕ) × Goes_on r rows p l q × (y ≡ get_or span q 0 + 1)) s (a.found (omega arith)) ];
+    found = λ g. elim (cases_lt v w) [ inl k ↦ let x = from k in (get_or letters j 0, x.0, x.1, x.2) | inr k ↦ let s : v ≡ w = omega arith in subst (λ (y : ℕ). (l : ℕ) × (q : ℕ) × GoesOn r rows p l q × (y ≡ get_or span q 0 + 1)) s (a.found (omega arith)) ];
     most = below_more _ _ (λ i k q x. let z = a.most i k q x in omega arith) at_j;
   }
 
@@ -101,8 +101,8 @@ module _ (r : Loop) (letters rows : List ℕ) (fair : Fillable r letters) (rs : 
         let s = first_step r.next p l u q e in
         let k = rs.closed p l s.0 m s.1 (live_back r u s.0 q s.2 x) in
         let j = letter_at l s.0 s.1 in
-        let on : Goes_on r rows p l s.0 = (f.0, s.1, k) in
-        let on_j : Goes_on r rows p (get_or letters j.0 0) s.0 = subst (λ (y : ℕ). Goes_on r rows p y s.0) (sym j.2) on in
+        let on : GoesOn r rows p l s.0 = (f.0, s.1, k) in
+        let on_j : GoesOn r rows p (get_or letters j.0 0) s.0 = subst (λ (y : ℕ). GoesOn r rows p y s.0) (sym j.2) on in
         omega (arith, a.most j.0 j.1 s.0 on_j, (wd.spans s.0 (lower l s.0 f.0 s.1) k).most u q f.1 s.2 x)
 
     longest_list : (u : List ℕ) × (length u ≡ v) × Endless u × ((q : ℕ) × (follow_by r.next p u ≡ Some q) × Live r q)

@@ -23,8 +23,8 @@ abbrev pub Inserts : Loop → List ℕ → ℕ → ℕ → ℕ → Type 0
 Inserts r rows p l q = (insertable l ≡ true) × (r.next p l ≡ Some q) × Marked rows q
 
 -- the letter l, which is not the end, leads from p to the place q, which has a row
-abbrev pub Goes_on : Loop → List ℕ → ℕ → ℕ → ℕ → Type 0
-Goes_on r rows p l q = (l ≢ end) × (r.next p l ≡ Some q) × Marked rows q
+abbrev pub GoesOn : Loop → List ℕ → ℕ → ℕ → ℕ → Type 0
+GoesOn r rows p l q = (l ≢ end) × (r.next p l ≡ Some q) × Marked rows q
 
 -- v is the lowest letter that lowers what p owes, or no row where it owes nothing
 pub record Lead (r : Loop) (p v : ℕ) : Type 0 where

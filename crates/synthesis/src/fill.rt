@@ -47,9 +47,9 @@ fn entry<P: Places>(
     column: usize,
 ) -> u16
     requires fillable { Fillable (P.Places.meaning places.now) letters.now }
-    requires all_weighed { AllWeighed (P.Places.meaning places.now) weighed.now }
+    requires weighed { AllWeighed (P.Places.meaning places.now) weighed.now }
     requires marked { Marked weighed.now.rows.now place }
-    requires column_bound { column < width letters.now }
+    requires within { column < width letters.now }
     ensures { Entry (P.Places.meaning places.now) letters.now weighed.now.rows.now place column result }
 {
     if column < letters.len() {
@@ -67,8 +67,8 @@ fn entry<P: Places>(
 /// What stands in the table at an index.
 fn number_at<P: Places>(places: &P, letters: &[Letter], weighed: &Weighed, index: usize) -> u16
     requires fillable { Fillable (P.Places.meaning places.now) letters.now }
-    requires all_weighed { AllWeighed (P.Places.meaning places.now) weighed.now }
-    requires letters_bound { weighed.now.count * width letters.now < 2 ^ 64 }
+    requires weighed { AllWeighed (P.Places.meaning places.now) weighed.now }
+    requires fits { weighed.now.count * width letters.now < 2 ^ 64 }
     ensures { Written (P.Places.meaning places.now) letters.now weighed.now.rows.now weighed.now.order.now weighed.now.count index result }
 {
     let width = letters.len() + WEIGHTS;
@@ -88,8 +88,8 @@ fn number_at<P: Places>(places: &P, letters: &[Letter], weighed: &Weighed, index
 /// Writes the whole table memory.
 fn write<P: Places>(places: &P, letters: &[Letter], weighed: &Weighed, table: &mut [u16])
     requires fillable { Fillable (P.Places.meaning places.now) letters.now }
-    requires all_weighed { AllWeighed (P.Places.meaning places.now) weighed.now }
-    requires letters_in_bounds { (P.Places.meaning places.now).size * width letters.now ≤ length table.old }
+    requires weighed { AllWeighed (P.Places.meaning places.now) weighed.now }
+    requires room { (P.Places.meaning places.now).size * width letters.now ≤ length table.old }
     ensures { Tells (P.Places.meaning places.now) letters.now table.new weighed.now.count }
 {
     for index in 0..table.len() {
@@ -108,7 +108,7 @@ fn tabulate<P: Places>(
     span: &mut [u16],
 ) -> Option<u16>
     requires fillable { Fillable (P.Places.meaning places.now) letters.now }
-    requires letters_in_bounds { (P.Places.meaning places.now).size * width letters.now ≤ length table.old }
+    requires room { (P.Places.meaning places.now).size * width letters.now ≤ length table.old }
     requires owed_len { length owed.old ≡ (P.Places.meaning places.now).size }
     requires rows_len { length rows.old ≡ (P.Places.meaning places.now).size }
     requires order_len { length order.old ≡ (P.Places.meaning places.now).size }

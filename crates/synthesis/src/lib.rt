@@ -1,4 +1,6 @@
 //! The table of a property, filled from its places.
+#![tactic(auto)]
+
 mod fill;
 mod rows;
 pub mod theorems;

@@ -42,7 +42,7 @@ pub(crate) fn onward<P: Places>(
 fn leads_to<P: Places>(places: &P, letters: &[Letter], marks: &[u16], place: u16) -> bool
     requires fillable { Fillable (P.Places.meaning places.now) letters.now }
     requires marks_len { length marks.now ≡ (P.Places.meaning places.now).size }
-    requires place_bound { place < (P.Places.meaning places.now).size }
+    requires inside { place < (P.Places.meaning places.now).size }
     ensures yes { result ≡ true → Into (P.Places.meaning places.now) marks.now place }
     ensures nay { result ≡ false → Into (P.Places.meaning places.now) marks.now place → ⊥ }
 {
@@ -57,7 +57,7 @@ fn leads_to<P: Places>(places: &P, letters: &[Letter], marks: &[u16], place: u16
 /// Marks each place that leads to a marked one; answers whether a mark was added.
 fn mark_more<P: Places>(places: &P, letters: &[Letter], marks: &mut [u16]) -> bool
     requires fillable { Fillable (P.Places.meaning places.now) letters.now }
-    requires marking_2 { Marking (P.Places.meaning places.now) marks.old }
+    requires marks { Marking (P.Places.meaning places.now) marks.old }
     ensures marking { Marking (P.Places.meaning places.now) marks.new }
     ensures more { result ≡ true → zeros marks.new < zeros marks.old }
     ensures done { result ≡ false → (p : ℕ) → p < (P.Places.meaning places.now).size → Into (P.Places.meaning places.now) marks.new p → Marked marks.new p }
@@ -97,7 +97,7 @@ fn number_by<P: Places>(
 ) -> u16
     requires covers { Covers (P.Places.meaning places.now) live.now place }
     requires live_len { length live.now ≡ (P.Places.meaning places.now).size }
-    requires numbered_2 { Numbered (P.Places.meaning places.now) live.now rows.old order.old count }
+    requires numbering { Numbered (P.Places.meaning places.now) live.now rows.old order.old count }
     requires marked { Marked rows.old place }
     ensures numbered { Numbered (P.Places.meaning places.now) live.now rows.new order.new result }
     ensures grown { Grown rows.old order.old count rows.new order.new result }
@@ -128,7 +128,7 @@ fn number_from<P: Places>(
 ) -> u16
     requires fillable { Fillable (P.Places.meaning places.now) letters.now }
     requires live_len { length live.now ≡ (P.Places.meaning places.now).size }
-    requires numbered_2 { Numbered (P.Places.meaning places.now) live.now rows.old order.old count }
+    requires numbering { Numbered (P.Places.meaning places.now) live.now rows.old order.old count }
     requires marked { Marked rows.old place }
     ensures numbered { Numbered (P.Places.meaning places.now) live.now rows.new order.new result }
     ensures grown { Grown rows.old order.old count rows.new order.new result }

@@ -4,7 +4,7 @@ ghost use Rattle.places.specs.Owing.{LoopWay, LoopOwed, LoopSpan};
 ghost use Rattle.synthesis.specs.Fillable.{Fillable};
 ghost use Rattle.synthesis.specs.Marks.{Marked, Covers};
 ghost use Rattle.synthesis.specs.Numbers.{Rowed};
-ghost use Rattle.synthesis.specs.Weights.{Owes, Spans, Inserts, Goes_on, Lead, Stranded};
+ghost use Rattle.synthesis.specs.Weights.{Owes, Spans, Inserts, GoesOn, Lead, Stranded};
 
 use crate::rows::onward;
 use letters::letter::{END, Letter, may_insert};
@@ -22,7 +22,7 @@ fn owed_by<P: Places>(
 ) -> u16
     requires covers { Covers (P.Places.meaning places.now) rows.now place }
     requires owed_len { length owed.now ≡ length rows.now }
-    requires by_index { (q : ℕ) → Inserts (P.Places.meaning places.now) rows.now place letter q → slice_index owed.now q < no_row }
+    requires small { (q : ℕ) → Inserts (P.Places.meaning places.now) rows.now place letter q → slice_index owed.now q < no_row }
     ensures lower { result ≤ least }
     ensures from { result < least → (q : ℕ) × Inserts (P.Places.meaning places.now) rows.now place letter q × (result ≡ slice_index owed.now q + 1) }
     ensures at { (q : ℕ) → Inserts (P.Places.meaning places.now) rows.now place letter q → result ≤ slice_index owed.now q + 1 }
@@ -70,10 +70,10 @@ fn span_by<P: Places>(
 ) -> u16
     requires covers { Covers (P.Places.meaning places.now) rows.now place }
     requires span_len { length span.now ≡ length rows.now }
-    requires by_index { (q : ℕ) → Goes_on (P.Places.meaning places.now) rows.now place letter q → slice_index span.now q < no_row }
+    requires small { (q : ℕ) → GoesOn (P.Places.meaning places.now) rows.now place letter q → slice_index span.now q < no_row }
     ensures higher { longest ≤ result }
-    ensures from { longest < result → (q : ℕ) × Goes_on (P.Places.meaning places.now) rows.now place letter q × (result ≡ slice_index span.now q + 1) }
-    ensures at { (q : ℕ) → Goes_on (P.Places.meaning places.now) rows.now place letter q → slice_index span.now q + 1 ≤ result }
+    ensures from { longest < result → (q : ℕ) × GoesOn (P.Places.meaning places.now) rows.now place letter q × (result ≡ slice_index span.now q + 1) }
+    ensures at { (q : ℕ) → GoesOn (P.Places.meaning places.now) rows.now place letter q → slice_index span.now q + 1 ≤ result }
 {
     if letter == END {
         return longest;
@@ -144,7 +144,7 @@ fn lowers<P: Places>(
 ) -> bool
     requires covers { Covers (P.Places.meaning places.now) rows.now place }
     requires owed_len { length owed.now ≡ length rows.now }
-    requires by_index { (q : ℕ) → Inserts (P.Places.meaning places.now) rows.now place letter q → slice_index owed.now q < no_row }
+    requires small { (q : ℕ) → Inserts (P.Places.meaning places.now) rows.now place letter q → slice_index owed.now q < no_row }
     ensures yes { result ≡ true → (q : ℕ) × Inserts (P.Places.meaning places.now) rows.now place letter q × (slice_index owed.now q + 1 ≡ due) }
     ensures nay { result ≡ false → (q : ℕ) → Inserts (P.Places.meaning places.now) rows.now place letter q → slice_index owed.now q + 1 ≢ due }
 {

@@ -6,9 +6,9 @@ use Rattle.synthesis.proofs.fill.number_at.Goals as goal
 pub bounds-weighed-index : goal.bounds-weighed-index
 bounds-weighed-index g c =
     let row = div_below c.args.index (width c.args.letters.now) c.args.weighed.now.count (omega arith) (omega arith) in
-    omega (arith, c.requires.1.numbered.few, c.requires.1.numbered.order_long)
+    omega (arith, c.requires.weighed.numbered.few, c.requires.weighed.numbered.order_long)
 
 pub entry-requires : goal.entry-requires
 entry-requires g c =
     let row = div_below c.args.index (width c.args.letters.now) c.args.weighed.now.count (omega arith) (omega arith) in
-    (c.requires.0, c.requires.1, omega (arith, c.requires.1.numbered.placed (c.args.index / (width c.args.letters.now)) row), mod_below c.args.index (width c.args.letters.now) (omega arith))
+    record { fillable = c.requires.fillable; weighed = c.requires.weighed; marked = omega (arith, c.requires.weighed.numbered.placed (c.args.index / (width c.args.letters.now)) row); within = mod_below c.args.index (width c.args.letters.now) (omega arith) }

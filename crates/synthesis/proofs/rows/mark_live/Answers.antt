@@ -6,7 +6,7 @@ use Rattle.synthesis.proofs.rows.mark_live.Goals as goal
 pub loop-init : goal.loop-init
 loop-init g c =
     let r = g.P.Places.meaning c.args.places.now in
-    subst (λ (b : ℕ). Marking r (set c.clear.new.memory b 1)) (sym (c.boundary.ensures c.requires.0.small)) (first_mark r c.clear.new.memory (omega arith) c.requires.0.fair.starts c.clear.ensures)
+    subst (λ (b : ℕ). Marking r (set c.clear.new.memory b 1)) (sym (c.boundary.ensures c.requires.fillable.small)) (first_mark r c.clear.new.memory (omega arith) c.requires.fillable.fair.starts c.clear.ensures)
 
 pub returns : goal.returns
-returns g c = exact (g.P.Places.meaning c.args.places.now) c.mark-more.new.marks c.mark-more.ensures.marking c.args.letters.now c.requires.0.fair (c.mark-more.ensures.done c.loop-test.false)
+returns g c = exact (g.P.Places.meaning c.args.places.now) c.mark_more.new.marks c.mark_more.ensures.marking c.args.letters.now c.requires.fillable.fair (c.mark_more.ensures.done c.loop-test.false)

@@ -8,15 +8,15 @@ loop-head-init g c =
     let r = g.P.Places.meaning c.args.places.now in
     let live = c.args.live.now in
     record {
-      numbered = subst (λ (b : ℕ). Numbered r live (set c.clear.new.memory b 1) (set c.args.order.now 0 b) 1) (sym (c.boundary-boundary.ensures c.requires.0.small))
-          (first_row r live c.clear.new.memory c.args.order.now c.requires.0.fair.starts (omega arith) c.requires.3 c.clear.ensures (zeros_clear c.clear.new.memory c.clear.ensures)
-          (c.requires.1.complete r.boundary c.requires.0.fair.starts ([], refl)));
+      numbered = subst (λ (b : ℕ). Numbered r live (set c.clear.new.memory b 1) (set c.args.order.now 0 b) 1) (sym (c.boundary-boundary.ensures c.requires.fillable.small))
+          (first_row r live c.clear.new.memory c.args.order.now c.requires.fillable.fair.starts (omega arith) c.requires.order_len c.clear.ensures (zeros_clear c.clear.new.memory c.clear.ensures)
+          (c.requires.exact.complete r.boundary c.requires.fillable.fair.starts ([], refl)));
       so_far = omega arith;
       closed = λ i h. absurd (omega arith);
     }
 
 pub loop-head-preserved : goal.loop-head-preserved
-loop-head-preserved g c = numbering_more _ _ _ _ _ _ _ _ _ c.loop-head.invariant c.loop-head-test.true c.number-from-count.ensures.numbered c.number-from-count.ensures.grown c.number-from-count.ensures.followed
+loop-head-preserved g c = numbering_more _ _ _ _ _ _ _ _ _ c.loop-head.invariant c.loop-head-test.true c.number_from-count.ensures.numbered c.number_from-count.ensures.grown c.number_from-count.ensures.followed
 
 pub returns : goal.returns
-returns g c = rows_of _ _ _ _ _ _ c.requires.0.fair c.requires.1 (numbering_all _ _ _ _ _ _ c.loop-head.invariant c.loop-head-test.false)
+returns g c = rows_of _ _ _ _ _ _ c.requires.fillable.fair c.requires.exact (numbering_all _ _ _ _ _ _ c.loop-head.invariant c.loop-head-test.false)

@@ -41,7 +41,8 @@ branch_some test (b ∷ bs) e = elim (or_cases (test b.1) (some_branch test bs) 
   | inr h ↦ let r = branch_some test bs h in (r.0, r.1, inr r.2, r.3)
 ]
 
-before_true : (n : ℕ) (test : ℕ → Bool) (m : ℕ) → before false n test m ≡ true → (m < n) × (test m ≡ true)
+-- a test is met only by an earlier number
+pub before_true : (n : ℕ) (test : ℕ → Bool) (m : ℕ) → before false n test m ≡ true → (m < n) × (test m ≡ true)
 before_true n test m e = elim (lt_or_ge m n) [
   | inl h ↦ (h, sym (before_lt false n test m h) ∙ e)
   | inr h ↦ absurd (false≢true (sym (before_ge false n test m h) ∙ e))
@@ -52,7 +53,7 @@ module _ (nodes : List Node) where
   family_more l itself e b = branch l e b itself
   family_more l (branch j e' b' f) e b = branch j e' b' (family_more l f e b)
 
-  in_family_is : (n m : ℕ) → in_family nodes n m ≡ (eqb n m || by_branches (before false n (λ k. in_family nodes k m)) (node nodes n))
+  pub in_family_is : (n m : ℕ) → in_family nodes n m ≡ (eqb n m || by_branches (before false n (λ k. in_family nodes k m)) (node nodes n))
   in_family_is n m = by_number_is false (λ reaches k. eqb k m || by_branches reaches (node nodes k)) n
 
   tells_node : (n m : ℕ) → ((k : ℕ) → k < n → in_family nodes k m ≡ true → Family nodes k m)
@@ -67,7 +68,19 @@ module _ (nodes : List Node) where
   tells_node n m ih (Lap a) q h = absurd (false≢true h)
   tells_node n m ih (All a b) q h = absurd (false≢true h)
 
-  tells : (m n : ℕ) → in_family nodes n m ≡ true → Family nodes n m
+  -- the family of an earlier node that a branch names is in the family
+  pub branch_in_family : (n m l k : ℕ) (bs : List (ℕ × ℕ)) → node nodes n ≡ Choice bs → Branch bs l k → k < n → in_family nodes k m ≡ true → in_family nodes n m ≡ true
+  branch_in_family n m l k bs e b h f =
+      in_family_is n m
+      ∙ or_right (eqb n m) (by_branches (before false n (λ k. in_family nodes k m)) (node nodes n))
+      (ap (by_branches (before false n (λ k. in_family nodes k m))) e
+      ∙ some_branch_true (before false n (λ k. in_family nodes k m)) bs l k b
+      (before_lt false n (λ k. in_family nodes k m) k h ∙ f))
+
+  pub itself_in_family : (n : ℕ) → in_family nodes n n ≡ true
+  itself_in_family n = in_family_is n n ∙ or_left (eqb n n) _ (eq-eqb n n refl)
+
+  pub tells : (m n : ℕ) → in_family nodes n m ≡ true → Family nodes n m
   tells m = from_earlier (λ n. in_family nodes n m ≡ true → Family nodes n m) (λ n ih e. elim (or_cases (eqb n m) _ (sym (in_family_is n m) ∙ e)) [
     | inl h ↦ subst (λ x. Family nodes n x) (eqb-true n m h) itself
     | inr h ↦ tells_node n m ih (node nodes n) refl h
@@ -83,13 +96,8 @@ module _ (nodes : List Node) where
     family_le (branch {n = n} {k = k} l e b f) = let lt : k < n = branch_earlier l e b in let r = family_le f in omega arith
 
     told : {n m : ℕ} → Family nodes n m → in_family nodes n m ≡ true
-    told {n} itself = in_family_is n n ∙ or_left (eqb n n) _ (eq-eqb n n refl)
-    told {n} {m} (branch {k = k} {bs = bs} l e b f) =
-        in_family_is n m
-        ∙ or_right (eqb n m) (by_branches (before false n (λ k. in_family nodes k m)) (node nodes n))
-        (ap (by_branches (before false n (λ k. in_family nodes k m))) e
-        ∙ some_branch_true (before false n (λ k. in_family nodes k m)) bs l k b
-        (before_lt false n (λ k. in_family nodes k m) k (branch_earlier l e b) ∙ told f))
+    told {n} itself = itself_in_family n
+    told {n} {m} (branch {k = k} {bs = bs} l e b f) = branch_in_family n m l k bs e b (branch_earlier l e b) (told f)
 
 pub family_tested : FamilyTestIsExact
 family_tested nodes ok n m = (tells nodes m n, told nodes ok)

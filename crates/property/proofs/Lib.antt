@@ -2,6 +2,7 @@ pub mod Appending
 pub mod Branching
 pub mod Closed
 pub mod Families
+pub mod FamilyMarks
 pub mod Filling
 pub mod Judging
 pub mod Lettering

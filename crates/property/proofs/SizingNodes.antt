@@ -8,7 +8,7 @@ use Rattle.property.specs.Checks.{every, names}
 use Rattle.property.specs.Meant.{meant, all_meant}
 use Rattle.property.specs.Nodes as N
 use Rattle.property.specs.Numbered.{before}
-use Rattle.property.specs.Sized.{LaidOut, Kept, MarksAlso, branches_at, counted, cut, marked_total, named_by}
+use Rattle.property.specs.Sized.{LaidOut, Kept, MarksAlso, branches_at, counted, cut, marked_total, named_before, named_by, names_before}
 use Rattle.property.specs.Sizes.{by_branches, in_family, size, size_by, some_branch, weight}
 use Rattle.property.proofs.Families.{earlier_at}
 use Rattle.property.proofs.Numbering.{before_lt, by_number_is, lt_or_ge}
@@ -91,6 +91,20 @@ module _ (file : List ℕ) (nodes : List Node) where
   marks_branches was marked n start count e here also m =
       also m
       ∙ sym (ap₂ (λ x y. get_or was m false || (x && by_branches (λ k. eqb k m) y)) here (node_meant n (Choice start count) e))
+
+  -- a node that is no Choice names no earlier one
+  pub marks_none_before : (was : List Bool) (n : ℕ) → ((start count : ℕ) → get_or nodes n Nothing ≡ Choice start count → ⊥) → MarksAlso (named_before (all_meant file nodes) was n) was was
+  marks_none_before was n h m =
+      and_none (get_or was m false) (get_or was n false)
+      ∙ sym (ap (λ b. get_or was m false || (get_or was n false && b))
+      (ap (by_branches (before false n (λ k. eqb k m))) (node_meant n (get_or nodes n Nothing) refl) ∙ no_branches file (before false n (λ k. eqb k m)) (get_or nodes n Nothing) h))
+
+  -- a marked Choice marks the earlier nodes of its branches
+  pub marks_branches_before : (was marked : List Bool) (n start count : ℕ) → get_or nodes n Nothing ≡ Choice start count → get_or was n false ≡ true
+      → MarksAlso (names_before (branches_at file start count) n) was marked → MarksAlso (named_before (all_meant file nodes) was n) was marked
+  marks_branches_before was marked n start count e here also m =
+      also m
+      ∙ sym (ap₂ (λ x y. get_or was m false || (x && by_branches (before false n (λ k. eqb k m)) y)) here (node_meant n (Choice start count) e))
 
   module _ (ok : LaidOut file nodes) where
     named_below : (n : ℕ) (x : Node) → get_or nodes n Nothing ≡ x → every (λ m. ltb m n) (names (meant file x)) ≡ true

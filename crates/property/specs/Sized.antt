@@ -6,7 +6,8 @@ use Rattle.property.specs.declared.node.Node.TheVariants.{Nothing, Choice, Seque
 use Rattle.property.specs.Checks.{every, names, most_nodes}
 use Rattle.property.specs.Meant.{all_meant}
 use Rattle.property.specs.Nodes as N
-use Rattle.property.specs.Sizes.{Family, in_family, by_branches, total, size}
+use Rattle.property.specs.Numbered.{before}
+use Rattle.property.specs.Sizes.{Family, in_family, some_branch, by_branches, total, size}
 
 -- each node names only earlier ones
 abbrev pub NamesEarlier : List N.Node → Type 0
@@ -46,6 +47,14 @@ MarksAlso more was marked = (m : ℕ) → slice_index_or marked m false ≡ (sli
 -- the nodes that the branches of n name, if n is marked
 abbrev pub named_by : List N.Node → List Bool → ℕ → ℕ → Bool
 named_by nodes marked n m = slice_index_or marked n false && by_branches (λ k. nat_eq k m) (N.node nodes n)
+
+-- some branch names m, which is before `end`
+abbrev pub names_before : List (ℕ × ℕ) → ℕ → ℕ → Bool
+names_before bs end m = some_branch (before false end (λ k. nat_eq k m)) bs
+
+-- the branches of n name m, which is before n, and n is marked
+abbrev pub named_before : List N.Node → List Bool → ℕ → ℕ → Bool
+named_before nodes marked n m = slice_index_or marked n false && by_branches (before false n (λ k. nat_eq k m)) (N.node nodes n)
 
 -- what a node counts in a family: a Choice 1, any other its size
 abbrev pub counted : Node → ℕ → ℕ

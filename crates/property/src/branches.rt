@@ -112,8 +112,8 @@ fn from(file: &[u8], start: usize) -> &[u8]
     }
 }
 
-/// The part of the file that has the branches of a Choice.
-pub(crate) fn branches_at(file: &[u8], start: usize, count: usize) -> &[u8]
+/// The bytes of the branches of a Choice, those of them that the file has.
+pub fn branches_at(file: &[u8], start: usize, count: usize) -> &[u8]
     ensures { result.now ≡ take (branch_bytes * count) (drop start file.now) }
 {
     let rest = from(file, start);

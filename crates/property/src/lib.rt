@@ -1,9 +1,10 @@
 //! From a property file to a checked property: its alphabet and its nodes, or the fault that it gets.
 #![tactic(auto)]
 
-mod branches;
+pub mod branches;
 pub mod check;
 mod declared;
+mod family;
 pub mod fault;
 mod named;
 pub mod node;

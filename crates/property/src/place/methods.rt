@@ -1,6 +1,10 @@
-ghost use Rattle.std.specs.Prelude.{◌≡◌, length};
-ghost use Rattle.property.specs.Placed.{stored, closing_in, sizes_in, Emptied};
+ghost use Rattle.std.specs.Prelude.{◌≡◌, ℕ, ◌<◌, false, length, slice_index_or};
+ghost use Rattle.property.specs.Checks.{most_nodes};
+ghost use Rattle.property.specs.Placed.{stored, nodes_in, closing_in, sizes_in, Emptied};
+ghost use Rattle.property.specs.Sized.{MarksAlso, named_before};
+ghost use Rattle.property.specs.Sizes.{in_family};
 
+use crate::family::{mark_family_of, mark_named_before};
 use crate::node::{MOST_NODES, Node};
 use crate::place::Nodes;
 
@@ -38,6 +42,23 @@ impl Nodes {
         ensures { result.now ≡ sizes_in self.now }
     {
         &self.sizes[0..self.count]
+    }
+
+    /// Marks the family of a node, and nothing else.
+    pub fn mark_family(&self, file: &[u8], n: usize, marked: &mut [bool; MOST_NODES])
+        ensures { (m : ℕ) → m < most_nodes → slice_index_or marked.new m false ≡ in_family (nodes_in file.now self.now) n m }
+    {
+        mark_family_of(file, self.nodes(), n, marked);
+    }
+
+    /// Marks also the earlier nodes that a node names by branches, if it is marked itself.
+    pub fn mark_named(&self, file: &[u8], n: usize, marked: &mut [bool; MOST_NODES])
+        ensures { MarksAlso (λ m. named_before (nodes_in file.now self.now) marked.old n m) marked.old marked.new }
+    {
+        let nodes = self.nodes();
+        if n < nodes.len() {
+            mark_named_before(file, nodes, n, marked);
+        }
     }
 
     /// The offset of the last record of the file.

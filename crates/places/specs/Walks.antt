@@ -1,14 +1,11 @@
 -- The walk of a node of kinds 2 to 5: the places that lists of letters lead through, one letter after the other.
 use Rattle.std.specs.Prelude.{◌≡◌, ℕ, zero, suc, ◌+◌, ◌-◌, ◌*◌, ◌/◌, ◌%◌, Bool, cond, List, [], ◌∷◌, Some, None, Option, ◌==◌, nat_le, nat_lt}
+-- a list was no beginning of a trace; it was a trace; or it led to a place
+pub use Rattle.places.specs.declared.outcome.Outcome.{Outcome}
+pub use Rattle.places.specs.declared.outcome.Outcome.TheVariants.{Dead, Done, At}
 use Rattle.property.specs.Nodes.{Node, Nothing, Choice, Sequence, Both, Lap, All, node}
 use Rattle.property.specs.Numbered.{by_number}
 use Rattle.property.specs.Sizes.{total, in_family}
-
--- A list was no beginning of a trace; it was a trace; or it led to a place.
-pub data Outcome : Type 0 where
-  Dead : Outcome
-  Done : Outcome
-  At : ℕ → Outcome
 
 pub record Walk : Type 0 where
   -- how many places there are, numbered from 0

@@ -4,6 +4,9 @@ ghost use Rattle.letters.specs.Letters.{letter, insertable, Decodes};
 /// A letter as it stands in files, lines and outputs: its kind's number times `NUMBERS_A_KIND`, plus its own number.
 pub type Letter = u8;
 
+/// One above the largest number that the type of a letter holds.
+pub const LETTER_BOUND: usize = 256;
+
 /// How many numbers a kind has.
 pub const NUMBERS_A_KIND: Letter = 32;
 

@@ -14,7 +14,7 @@ use letters::letter::{END, Letter, may_insert};
 pub const NO_ROW: u16 = 65_535;
 
 /// The columns after the letters: owed, span and lead.
-const LAST_COLUMNS: usize = 3;
+pub const LAST_COLUMNS: usize = 3;
 
 /// Rows in a memory, one after the other: a cell for each letter in order, then owed, span and lead. Each row is a place.
 #[derive(Clone, Copy)]

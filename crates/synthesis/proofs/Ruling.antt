@@ -23,7 +23,7 @@ use Rattle.synthesis.proofs.Letters.{position_at}
 insertable_held : (a : ℕ) → insertable a ≡ true → a < letter_bound
 insertable_held a can = grind (arith, nat_tests)
 
-same_then : (f g : ℕ → Option ℕ) (o : Option ℕ) → ((q : ℕ) → o ≡ Some q → f q ≡ g q) → and_then o f ≡ and_then o g
+pub same_then : (f g : ℕ → Option ℕ) (o : Option ℕ) → ((q : ℕ) → o ≡ Some q → f q ≡ g q) → and_then o f ≡ and_then o g
 same_then f g None h = refl
 same_then f g (Some q) h = h q refl
 

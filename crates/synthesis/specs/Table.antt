@@ -4,6 +4,7 @@ use Rattle.rules.specs.Lists.{follow_by}
 use Rattle.rules.specs.Tabled.{no_row, width}
 use Rattle.places.specs.Loops.{Loop, LeadsToLive}
 use Rattle.places.specs.Owing.{LoopOwed, LoopSpan}
+use Rattle.synthesis.specs.Drawn.{Line}
 use Rattle.synthesis.specs.Marks.{Marked}
 use Rattle.synthesis.specs.Weights.{Lead, Stranded}
 use Rattle.synthesis.specs.Rows.{row_owed, row_span, row_lead, next_row}
@@ -24,6 +25,11 @@ pub record Entry (r : Loop) (letters rows : List ℕ) (p j v : ℕ) : Type 0 whe
 pub record Written (r : Loop) (letters rows order : List ℕ) (count k v : ℕ) : Type 0 where
   pub inside : k < count * width letters → Entry r letters rows (slice_index order (k / width letters)) (k % width letters) v
   pub past : count * width letters ≤ k → v ≡ no_row
+
+-- the line is that of the row at k, unless the row begins there
+abbrev pub Lined : Loop → List ℕ → List ℕ → ℕ → List ℕ → ℕ → Type 0
+Lined r letters order count line k =
+    k < count * width letters → (k % width letters ≢ 0) → Line r letters (slice_index order (k / width letters)) line
 
 -- what the table says of the loop r: its rows are the live places that are reached
 pub record Tells (r : Loop) (letters table : List ℕ) (count : ℕ) : Type 0 where

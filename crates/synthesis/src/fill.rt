@@ -16,15 +16,15 @@ const WEIGHTS: usize = 3;
 
 /// The rows, and what weighs on the places that have one: each slice but `order` has a number for each place.
 #[derive(Clone, Copy)]
-struct Weighed<'a> {
+pub(crate) struct Weighed<'a> {
     /// How many rows there are.
-    count: u16,
+    pub(crate) count: u16,
     /// The number of the place's row and one, or 0 where it has none.
-    rows: &'a [u16],
+    pub(crate) rows: &'a [u16],
     /// The place of each row.
-    order: &'a [u16],
-    owed: &'a [u16],
-    span: &'a [u16],
+    pub(crate) order: &'a [u16],
+    pub(crate) owed: &'a [u16],
+    pub(crate) span: &'a [u16],
 }
 
 /// The row that the letter leads to from the place, or `NO_ROW`.

@@ -1,0 +1,15 @@
+use Rattle.std.proofs.Common.{sym, ap, ◌∙◌, arith}
+use Rattle.property.specs.Sized.{cut}
+use Rattle.property.specs.Sizes.{size}
+use Rattle.synthesis.specs.Courses.{nodes_of}
+use Rattle.synthesis.proofs.Roots.{root_within, root_size}
+use Rattle.synthesis.proofs.course.Course.size.Goals as goal
+
+pub size_at-requires : goal.size_at-requires
+size_at-requires c = record { grounded = c.requires.grounded; within = omega (arith, root_within c.args.self.now c.requires, c.root.ensures) }
+
+pub returns : goal.returns
+returns c =
+    c.size_at.ensures
+    ∙ ap (λ n. cut (size (nodes_of c.args.self.now) n)) c.root.ensures
+    ∙ ap cut (sym (root_size c.args.self.now c.requires))

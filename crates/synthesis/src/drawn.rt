@@ -1,0 +1,103 @@
+ghost use Rattle.std.specs.Prelude.{◌≡◌, ℕ, ◌+◌, ◌*◌, ◌<◌, ◌≤◌, true, length, slice_index_or};
+ghost use Rattle.letters.specs.Alphabets.{ascending_from, most_letters};
+ghost use Rattle.property.specs.Sized.{most_size};
+ghost use Rattle.rules.specs.Tabled.{no_row, row_named, width};
+ghost use Rattle.synthesis.specs.Courses.{Ready, letters_of, loop_of};
+ghost use Rattle.synthesis.specs.Drawn.{Columned, Lines, drawn};
+
+use crate::course::Course;
+use letters::alphabet::MOST_LETTERS;
+use letters::letter::{LETTER_BOUND, Letter};
+use places::places::{MOST_SIZE, Places};
+use rules::table::{LAST_COLUMNS, NO_ROW};
+
+/// The places of a loop, drawn into a memory: a row for each place, with a cell for each letter.
+#[derive(Clone, Copy)]
+pub(crate) struct Drawn<'a> {
+    pub(crate) cells: &'a [u16],
+    /// The column of each letter.
+    pub(crate) columns: &'a [Option<u8>; LETTER_BOUND],
+    /// How many numbers a row has.
+    pub(crate) stride: u16,
+    /// How many places there are.
+    pub(crate) size: u16,
+    pub(crate) boundary: u16,
+}
+
+/// The place that a cell names.
+pub(crate) fn named(cell: u16) -> Option<u16>
+    ensures { result ≡ row_named cell }
+{
+    if cell == NO_ROW { None } else { Some(cell) }
+}
+
+impl Drawn<'_> {
+    /// The place that follows a place after a letter.
+    pub(crate) fn next(&self, place: u16, letter: Letter) -> Option<u16>
+        ensures { result ≡ (drawn self.now).next place letter }
+    {
+        let column = self.columns[letter as usize]?;
+        let index = place as usize * self.stride as usize + column as usize;
+        if index < self.cells.len() {
+            named(self.cells[index])
+        } else {
+            None
+        }
+    }
+}
+
+impl Places for Drawn<'_> {
+    ghost meaning = { drawn };
+
+    fn size(&self) -> u16 {
+        self.size.min(MOST_SIZE + 1)
+    }
+
+    fn boundary(&self) -> u16 {
+        self.boundary
+    }
+
+    fn following(&self, place: u16, letter: Letter) -> Option<u16> {
+        self.next(place, letter)
+    }
+}
+
+/// The column of each letter.
+pub(crate) fn columns_of(letters: &[Letter]) -> [Option<u8>; LETTER_BOUND]
+    requires few { length letters.now ≤ most_letters }
+    requires ascending { ascending_from 0 letters.now ≡ true }
+    ensures { Columned letters.now result (length letters.now) }
+{
+    let mut columns = [None; LETTER_BOUND];
+    for j in 0..letters.len() {
+        columns[letters[j] as usize] = Some(j as u8);
+    }
+    columns
+}
+
+/// Writes the first cells of a line into the memory, from an index on.
+fn put(line: &[u16; MOST_LETTERS], count: usize, start: usize, memory: &mut [u16])
+    requires few { count ≤ most_letters }
+    requires room { start + count ≤ length memory.old }
+    ensures put { (j : ℕ) → j < count → slice_index_or memory.new (start + j) no_row ≡ slice_index_or line.now j no_row }
+    ensures kept { (k : ℕ) → k < start → slice_index_or memory.new k no_row ≡ slice_index_or memory.old k no_row }
+{
+    for j in 0..count {
+        memory[start + j] = line[j];
+    }
+}
+
+/// Draws the places of the property's loop.
+pub(crate) fn draw(course: &Course, table: &mut [u16])
+    requires ready { Ready course.now }
+    requires few { (loop_of course.now).size ≤ most_size }
+    requires room { (loop_of course.now).size * width (letters_of course.now) ≤ length table.old }
+    ensures { Lines (loop_of course.now) (letters_of course.now) table.new (loop_of course.now).size }
+{
+    let width = course.letters.len() + LAST_COLUMNS;
+    let mut line = [NO_ROW; MOST_LETTERS];
+    for place in 0..course.size() {
+        course.line(place, &mut line);
+        put(&line, course.letters.len(), place as usize * width, table);
+    }
+}

@@ -2,9 +2,15 @@
 #![tactic(auto)]
 
 #[cfg(test)]
+mod enforcer_tests;
+#[cfg(test)]
 mod guard_tests;
 #[cfg(test)]
 mod letter_tests;
+#[cfg(test)]
+mod plate;
 pub mod reading;
 #[cfg(test)]
 mod reading_tests;
+#[cfg(test)]
+mod synthesis_tests;

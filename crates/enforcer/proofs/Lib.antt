@@ -1,0 +1,5 @@
+pub mod Caps
+pub mod Edits
+pub mod Files
+pub mod OfferLoop
+pub mod Offering

@@ -1,0 +1,4 @@
+pub mod Enforcement
+pub mod Faults
+pub mod Limited
+pub mod Offers

@@ -2,6 +2,8 @@
 //! byte offered, what came of it, and the letters written or the refusal's number. The last line says whether the
 //! guard rests. `bench FOLDER ..` does so in each folder, over its file `input`, under the folder's name; `-` stands for
 //! the folder that it is run in and its standard input.
+#![tactic(auto)]
+
 use enforcer::enforce::{Limit, enforce};
 use enforcer::offers::calls_of;
 use guard::runs::{Call, Guard, Reply, Run};

@@ -2,12 +2,12 @@ use crate::plate::PLATE;
 use letters::alphabet::Alphabet;
 use letters::letter::{END, TICK};
 use rules::rule::Rule;
+use rules::table::{NO_ROW, Table};
 use std::alloc::{AllocError, Global};
 use std::process::Abort;
 use std::test::Fail;
 use synthesis::fault::SynthesisFault;
 use synthesis::synthesize::synthesize;
-use rules::table::{NO_ROW, Table};
 
 /// A Lap over a Choice of letter 0 and then the end: nothing that may be inserted leads to an end.
 const STRANDED: [u8; 29] = [

@@ -1,5 +1,7 @@
 //! `timing TIMES FILE ..` makes the table of each property file so many times, and prints how many rows it has or which
 //! refusal it gets. `./measure` takes the time.
+#![tactic(auto)]
+
 use letters::alphabet::Alphabet;
 use std::{env, fs, io};
 use synthesis::fault::SynthesisFault;

@@ -1,4 +1,4 @@
--- The test `in-family` tells the relation `Family`, whose members are no later than its node, and of kinds 2 to 5 as it is.
+-- The test `in_family` tells the relation `Family`, whose members are no later than its node, and of kinds 2 to 5 as it is.
 use Rattle.std.proofs.Common.{◌≡◌, ℕ, ◌<◌, ◌≤◌, Bool, true, false, eqb, List, [], ◌∷◌, sym, refl, ap, ◌∙◌, subst, inl, inr, le_refl, eq-or-lt_of_le, arith}
 use Rattle.std.proofs.lemmas.Bool.{or_cases, or_left, or_right, eqb-true, eq-eqb, false≢true}
 use Rattle.property.specs.Nodes.{Node, Nothing, Choice, Sequence, Both, Lap, All, node, Branch, is_loop}

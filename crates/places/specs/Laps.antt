@@ -46,6 +46,6 @@ loop_by nodes loops (Both a b) = still
 loop_by nodes loops (Lap a) = lap_loop (walk nodes a)
 loop_by nodes loops (All a b) = all_loop (loops a) (loops b)
 
--- the loop of a node; `loop-is` is its equation
+-- the loop of a node; `loop_is` is its equation
 unfoldable pub loop : List Node → ℕ → Loop
 loop nodes = by_number still (λ loops n. loop_by nodes loops (node nodes n))

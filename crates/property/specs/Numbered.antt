@@ -9,6 +9,6 @@ abbrev pub up_to : {A : Type 0} → A → ((ℕ → A) → ℕ → A) → ℕ �
 up_to d F zero n = d
 up_to d F (suc turns) n = F (before d n (λ m. up_to d F turns m)) n
 
--- the value of n by F, where F takes the values of the numbers before; `by-number-is` is its equation
+-- the value of n by F, where F takes the values of the numbers before; `by_number_is` is its equation
 unfoldable pub by_number : {A : Type 0} → A → ((ℕ → A) → ℕ → A) → ℕ → A
 by_number d F n = up_to d F (suc n) n

@@ -27,7 +27,7 @@ use Rattle.places.proofs.Sizes.{walk_size}
 use Rattle.places.proofs.Traces.{choice_or_whole, whole_not_branches}
 use Rattle.synthesis.specs.declared.course.Course.{Course}
 use Rattle.synthesis.specs.Courses.{Grounded, Ready, PlaceOf, course, letters_of, nodes_of}
-use Rattle.synthesis.specs.Members.{Belongs, Found, GoesOn, OfFamily, OfFile, OffsetsKept, SmallChoice, weight_kept}
+use Rattle.synthesis.specs.Members.{Belongs, Found, FamilyGoesOn, OfFamily, OfFile, OffsetsKept, SmallChoice, weight_kept}
 use Rattle.synthesis.specs.Outcomes.{Like, kept}
 use Rattle.synthesis.proofs.Courses.{course_choice_step, course_plain, course_starts}
 use Rattle.synthesis.proofs.Grounding.{node_read}
@@ -314,7 +314,7 @@ pub record Stands (c : Course) (n p m k : ℕ) : Type 0 where
   pub whole : member_of (walk (nodes_of c) m) (node (nodes_of c) m) ≡ Whole (walk (nodes_of c) m) → Belongs c n p m k
   pub names : (cs : List (ℕ × ℕ)) → node (nodes_of c) m ≡ Choice cs → (l : ℕ) → OfFile c (target cs l)
   pub leads : (offsets : List ℕ) → OffsetsKept c n offsets → (cs : List (ℕ × ℕ)) → node (nodes_of c) m ≡ Choice cs
-      → (l : ℕ) (r : Outcome) → GoesOn c offsets (target cs l) r → r ≡ (course (nodes_of c) n).step p l
+      → (l : ℕ) (r : Outcome) → FamilyGoesOn c offsets (target cs l) r → r ≡ (course (nodes_of c) n).step p l
 
 pub small_choice : (c : Course) (n p : ℕ) → PlaceOf c n p → ((bs : List (ℕ × ℕ)) × (node (nodes_of c) n ≡ Choice bs)) → SmallChoice c n
 small_choice c n p place choice = record { within = place.within; few = place.few; choice = choice }

@@ -40,8 +40,8 @@ OfFamily c n None = Unit {0}
 OfFamily c n (Some m) = in_family (nodes_of c) n m ≡ true
 
 -- r is where a family with these first places goes on that comes to the node, or to none
-abbrev pub GoesOn : Course → List ℕ → Option ℕ → Outcome → Type 0
-GoesOn c offsets to r =
+abbrev pub FamilyGoesOn : Course → List ℕ → Option ℕ → Outcome → Type 0
+FamilyGoesOn c offsets to r =
     (n : ℕ) → SmallChoice c n → OffsetsKept c n offsets → OfFamily c n to
     → r ≡ enter_target (λ k. in_family (nodes_of c) n k) (λ k. member_of (walk (nodes_of c) k) (node (nodes_of c) k)) to
 

@@ -3,7 +3,7 @@ ghost use Rattle.property.specs.Nodes.{Choice, branches, node};
 ghost use Rattle.property.specs.Sizes.{size};
 ghost use Rattle.places.specs.Walks.{target};
 ghost use Rattle.synthesis.specs.Courses.{Grounded, Ready, PlaceOf, nodes_of};
-ghost use Rattle.synthesis.specs.Members.{Found, GoesOn, OfFile, OffsetsKept, PartOf, SmallChoice, weight_kept};
+ghost use Rattle.synthesis.specs.Members.{Found, FamilyGoesOn, OfFile, OffsetsKept, PartOf, SmallChoice, weight_kept};
 
 use crate::course::Course;
 use crate::course::ones::target;
@@ -70,7 +70,7 @@ impl Course<'_> {
     fn entered(&self, offsets: &[u16; MOST_NODES], m: usize) -> Outcome
         requires ready { Ready self.now }
         requires within { m < length (nodes_of self.now) }
-        ensures { GoesOn self.now offsets.now (Some m) result }
+        ensures { FamilyGoesOn self.now offsets.now (Some m) result }
     {
         match self.nodes.nodes()[m] {
             Node::Choice(_, _) => Outcome::At(offsets[m]),
@@ -82,7 +82,7 @@ impl Course<'_> {
     fn entered_by(&self, offsets: &[u16; MOST_NODES], body: &[u8], letter: Letter) -> Outcome
         requires ready { Ready self.now }
         requires within { OfFile self.now (target (branches body.now) letter) }
-        ensures { GoesOn self.now offsets.now (target (branches body.now) letter) result }
+        ensures { FamilyGoesOn self.now offsets.now (target (branches body.now) letter) result }
     {
         match target(body, letter) {
             None => Outcome::Dead,

@@ -3,7 +3,7 @@
 
 usage: python3 tools/respell.py        at the top of the repository, once, after Rattle's own porting script
 
-What is renamed: names with a dash that specs/ and proofs/ of a crate define (definitions, records, their fields,
+What is renamed: names with a dash, and types with an underscore, that specs/ and proofs/ of a crate define (definitions, records, their fields,
 constructors, lemmas, bound variables), in these files, in clauses of src/ and, between backticks, in README and docs/.
 What stays: names of the library, and the names that Rattle makes (of goals, and of steps of the code), in answers and
 invariants. It prints names that fall together.

@@ -1,4 +1,4 @@
-//! The marks of a family, for nodes of any kind: a node that names no earlier one, or a number past the last, marks nothing.
+//! The marks of a family, for any list of nodes: a branch counts only where it names an earlier node.
 ghost use Rattle.std.specs.Prelude.{◌≡◌, ℕ, ◌<◌, ◌≤◌, false, length, ◌==◌, slice_index_or};
 ghost use Rattle.property.specs.Meant.{all_meant};
 ghost use Rattle.property.specs.Nodes.{branches};

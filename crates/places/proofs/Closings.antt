@@ -6,13 +6,14 @@ use Rattle.property.specs.Closing.{each_closes, closes, closes_by}
 use Rattle.property.specs.Nodes.{Node, Nothing, Choice, Sequence, Both, Lap, All, node, Branch, is_nothing}
 use Rattle.property.specs.Numbered.{before}
 use Rattle.property.specs.Traces.{Trace}
+use Rattle.property.proofs.Families.{before_true}
 use Rattle.property.proofs.Numbering.{from_earlier}
 use Rattle.rules.specs.Lists.{follow_by}
 use Rattle.rules.proofs.Follows.{none_some, then_some}
 use Rattle.places.specs.Laps.{again}
 use Rattle.places.specs.Walks.{Outcome, Dead, Done, At, Walk, run}
 use Rattle.places.proofs.ByKind.{means}
-use Rattle.places.proofs.Equations.{before_true, closes_is}
+use Rattle.places.proofs.Equations.{closes_is}
 use Rattle.places.proofs.Falling.{Below, run-++}
 use Rattle.places.proofs.Laps.{lap_next}
 use Rattle.places.proofs.Traces.{Tells}

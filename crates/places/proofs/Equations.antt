@@ -1,10 +1,10 @@
 -- The equations of what is defined by node numbers.
-use Rattle.std.proofs.Common.{◌≡◌, ℕ, ◌<◌, Bool, true, false, ◌||◌, eqb, List, sym, ◌∙◌, subst, inl, inr}
-use Rattle.std.proofs.lemmas.Bool.{cases_lt, false≢true}
+use Rattle.std.proofs.Common.{◌≡◌, ℕ, ◌<◌, false, List, sym, ap, ◌∙◌, subst, inl, inr}
+use Rattle.std.proofs.lemmas.Bool.{cases_lt}
 use Rattle.property.specs.Nodes.{Node, node}
 use Rattle.property.specs.Numbered.{before}
 use Rattle.property.specs.Closing.{closes, closes_by}
-use Rattle.property.specs.Sizes.{by_branches, in_family, size, size_by}
+use Rattle.property.specs.Sizes.{size, size_by}
 use Rattle.property.proofs.Numbering.{before_lt, before_ge, by_number_is}
 use Rattle.places.specs.Laps.{still, loop, loop_by}
 use Rattle.places.specs.Walks.{nothing_walk, walk, walk_by}
@@ -14,13 +14,6 @@ pub before_all : {A : Type 0} (P : A → Type 0) (d : A) (n : ℕ) (f : ℕ → 
 before_all P d n f base each m = elim (cases_lt m n) [
   | inl h ↦ subst P (sym (before_lt d n f m h)) (each m h)
   | inr h ↦ subst P (sym (before_ge d n f m h)) base
-]
-
--- a test is met only by an earlier number
-pub before_true : (n : ℕ) (f : ℕ → Bool) (m : ℕ) → before false n f m ≡ true → (m < n) × (f m ≡ true)
-before_true n f m e = elim (cases_lt m n) [
-  | inl h ↦ (h, sym (before_lt false n f m h) ∙ e)
-  | inr h ↦ absurd (false≢true (sym (before_ge false n f m h) ∙ e))
 ]
 
 module _ (nodes : List Node) where
@@ -35,8 +28,9 @@ module _ (nodes : List Node) where
   pub size_is : (n : ℕ) → size nodes n ≡ size_by nodes (before 0 n (λ m. size nodes m)) n (node nodes n)
   size_is n = by_number_is 0 (λ sizes n. size_by nodes sizes n (node nodes n)) n
 
+  -- the size of a node of a kind
+  pub size_of_kind : (n : ℕ) (x : Node) → node nodes n ≡ x → size nodes n ≡ size_by nodes (before 0 n (λ m. size nodes m)) n x
+  size_of_kind n x e = size_is n ∙ ap (λ y. size_by nodes (before 0 n (λ m. size nodes m)) n y) e
+
   pub closes_is : (n : ℕ) → closes nodes n ≡ closes_by nodes (before false n (λ m. closes nodes m)) (node nodes n)
   closes_is n = by_number_is false (λ closing n. closes_by nodes closing (node nodes n)) n
-
-  pub in_family_is : (n m : ℕ) → in_family nodes n m ≡ (eqb n m || by_branches (before false n (λ k. in_family nodes k m)) (node nodes n))
-  in_family_is n m = by_number_is false (λ reaches k. eqb k m || by_branches reaches (node nodes k)) n

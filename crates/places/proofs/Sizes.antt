@@ -18,7 +18,8 @@ unfolding total
 total_same f g zero h = refl
 total_same f g (suc k) h = ap₂ (λ x y. x + y) (total_same f g k (λ m l. h m (omega arith))) (h k (omega arith))
 
-places_weight : (w : Walk) (sizes : ℕ → ℕ) (m : ℕ) (x : Node) → (((bs : List (ℕ × ℕ)) → x ≡ Choice bs → ⊥) → w.size ≡ sizes m) → places (member_of w x) ≡ weight sizes m x
+-- what a member counts, where its walk has as many places as `sizes` says
+pub places_weight : (w : Walk) (sizes : ℕ → ℕ) (m : ℕ) (x : Node) → (((bs : List (ℕ × ℕ)) → x ≡ Choice bs → ⊥) → w.size ≡ sizes m) → places (member_of w x) ≡ weight sizes m x
 places_weight w sizes m Nothing h = h (λ bs e. let z : ◌≡◌ {A = ℕ} 0 1 = cc in omega arith)
 places_weight w sizes m (Choice bs) h = refl
 places_weight w sizes m (Sequence a b) h = h (λ bs e. let z : ◌≡◌ {A = ℕ} 0 1 = cc in omega arith)

@@ -13,7 +13,7 @@ use Rattle.property.proofs.Families.{branch_earlier, branch_some, family_more, f
 abbrev among_branches : List (ℕ × ℕ) → ℕ → Bool
 among_branches bs m = some_branch (λ k. eqb k m) bs
 
-or_none : (x : Bool) → x ≡ (x || false)
+pub or_none : (x : Bool) → x ≡ (x || false)
 or_none true = refl
 or_none false = refl
 

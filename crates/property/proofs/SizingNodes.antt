@@ -62,7 +62,7 @@ no_branches file test (Both c d) h = refl
 no_branches file test (Lap c) h = refl
 no_branches file test (All c d) h = refl
 
-and_none : (x y : Bool) → x ≡ (x || (y && false))
+pub and_none : (x y : Bool) → x ≡ (x || (y && false))
 and_none true y = refl
 and_none false true = refl
 and_none false false = refl

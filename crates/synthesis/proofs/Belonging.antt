@@ -7,7 +7,7 @@ use Rattle.property.specs.declared.node.Node as P
 use Rattle.property.specs.declared.node.Node.TheVariants as V
 use Rattle.property.specs.Checks.{most_nodes}
 use Rattle.property.specs.Meant.{meant}
-use Rattle.property.specs.Nodes.{Node, Nothing, Choice, Sequence, Both, Lap, All, node, branches, is_loop}
+use Rattle.property.specs.Nodes.{Node, Choice, node, branches, is_loop}
 use Rattle.property.specs.Numbered.{before}
 use Rattle.property.specs.Placed.{stored}
 use Rattle.property.specs.Sized.{cut, most_size}
@@ -18,6 +18,7 @@ use Rattle.property.proofs.SizingSums.{total_cut}
 use Rattle.places.specs.declared.outcome.Outcome.{Outcome}
 use Rattle.places.specs.declared.outcome.Outcome.TheVariants.{Dead, Done, At}
 use Rattle.places.specs.Walks.{Walk, Member, Whole, places, shift, target, walk, member_of, offset, enter, enter_target, enter_member, step_member}
+use Rattle.places.proofs.Sizes.{places_weight}
 use Rattle.places.proofs.Branches.{branch_earlier, target_branch}
 use Rattle.places.proofs.Choices.{Located, located, locate_at, offset_next, offset_rises}
 use Rattle.places.proofs.Equations.{size_is}
@@ -85,15 +86,6 @@ module _ (is_member : ℕ → Bool) (member : ℕ → Member) where
   unfolding total
   offset_skip m e = let z : offset is_member member (suc m) ≡ offset is_member member m + 0 = ap (λ b. offset is_member member m + cond b (places (member m)) 0) e in omega arith
 
--- what a member counts, where its walk has as many places as f says
-counts : (w : Walk) (f : ℕ → ℕ) (m : ℕ) (x : Node) → (((cs : List (ℕ × ℕ)) → x ≡ Choice cs → ⊥) → w.size ≡ f m) → places (member_of w x) ≡ weight f m x
-counts w f m Nothing h = h (λ cs e. let z : ◌≡◌ {A = ℕ} 0 1 = cc in omega arith)
-counts w f m (Choice cs) h = refl
-counts w f m (Sequence a b) h = h (λ cs e. let z : ◌≡◌ {A = ℕ} 0 1 = cc in omega arith)
-counts w f m (Both a b) h = h (λ cs e. let z : ◌≡◌ {A = ℕ} 0 1 = cc in omega arith)
-counts w f m (Lap a) h = h (λ cs e. let z : ◌≡◌ {A = ℕ} 0 1 = cc in omega arith)
-counts w f m (All a b) h = h (λ cs e. let z : ◌≡◌ {A = ℕ} 0 1 = cc in omega arith)
-
 -- in the family of n the first places of the nodes before m are written, and the next is `so_far`
 abbrev pub Written : Course → ℕ → List ℕ → ℕ → ℕ → Type 0
 Written c n offsets m so_far =
@@ -158,7 +150,7 @@ module _ (c : Course) (grounded : Grounded c) (n : ℕ) (small : SmallChoice c n
   each : (m : ℕ) (b : Bool) → is_in m ≡ b → cut (cond (is_in m) (places (part m)) 0) ≡ cut (cond (is_in m) (weight known m (node (nodes_of c) m)) 0)
   each m true i =
       ap (λ v. cut (cond (is_in m) v 0))
-      (counts (walk (nodes_of c) m) known m (node (nodes_of c) m) (λ other. plain_size m i ∙ sym (before_lt 0 n (λ k. size (nodes_of c) k) m (earlier m i other))))
+      (places_weight (walk (nodes_of c) m) known m (node (nodes_of c) m) (λ other. plain_size m i ∙ sym (before_lt 0 n (λ k. size (nodes_of c) k) m (earlier m i other))))
   each m false i = ap (λ b. cut (cond b (places (part m)) 0)) i ∙ sym (ap (λ b. cut (cond b (weight known m (node (nodes_of c) m)) 0)) i)
 
   -- the places of the family are those of the Choice
@@ -185,7 +177,7 @@ module _ (c : Course) (grounded : Grounded c) (n : ℕ) (small : SmallChoice c n
   -- what a member counts, from its size as it is kept
   weighs : (m : ℕ) → is_in m ≡ true → weight_kept c m ≡ places (part m)
   weighs m i =
-      sym (counts (walk (nodes_of c) m) (λ k. cut (size (nodes_of c) k)) m (node (nodes_of c) m) (λ other. elim (choice_or_whole (walk (nodes_of c) m) (node (nodes_of c) m)) [
+      sym (places_weight (walk (nodes_of c) m) (λ k. cut (size (nodes_of c) k)) m (node (nodes_of c) m) (λ other. elim (choice_or_whole (walk (nodes_of c) m) (node (nodes_of c) m)) [
         | inl q ↦ absurd (other q.0 q.1)
         | inr w ↦ plain_size m i ∙ (let z : size (nodes_of c) m ≡ cut (size (nodes_of c) m) = omega (arith, whole_inside m i w) in z)
       ]))

@@ -1,10 +1,11 @@
 -- Letters in a list: where one stands, that they ascend, and that the end is not insertable.
-use Rattle.std.proofs.Common.{◌≡◌, ℕ, zero, suc, ◌+◌, ◌<◌, ◌≤◌, true, eqb, leb, List, [], ◌∷◌, length, get_or, is_some as option_is_some, Some, Option, sym, ap, ◌∙◌, inl, inr, arith}
-use Rattle.std.proofs.lemmas.Bool.{cases_Bool, false≢true, eqb-true, leb-true, and_parts, or_cases, cond-true, cond-false}
+use Rattle.std.proofs.Common.{◌≡◌, ℕ, zero, suc, ◌<◌, ◌≤◌, true, eqb, leb, List, [], ◌∷◌, length, get_or, is_some as option_is_some, Some, sym, ap, ◌∙◌, subst, inl, inr, arith}
+use Rattle.std.proofs.lemmas.Bool.{false≢true, eqb-true, leb-true, and_parts, or_cases}
 use Rattle.letters.specs.Letters.{end, insertable}
-use Rattle.letters.specs.Alphabets.{among, ascending_from, position, position_from}
+use Rattle.letters.specs.Alphabets.{among, ascending_from, position}
 use Rattle.letters.proofs.Positions.{position_among}
-use Rattle.rules.proofs.Follows.{is_some, none_some}
+use Rattle.rules.proofs.Follows.{is_some}
+use Rattle.rules.proofs.Positions as P
 
 -- the letter l stands in the list at j
 abbrev pub At : List ℕ → ℕ → ℕ → Type 0
@@ -17,25 +18,11 @@ among_at l (k ∷ ks) e = elim (or_cases (eqb k l) (among l ks) e) [
   | inr h ↦ let a = among_at l ks h in (suc a.0, omega (arith, a.1), a.2)
 ]
 
--- a position counted from i
-position_from_at : (i : ℕ) (ls : List ℕ) (l j : ℕ) → position_from i ls l ≡ Some j → (n : ℕ) × (j ≡ i + n) × At ls l n
-unfolding position_from
-position_from_at i [] l j e = absurd (none_some e)
-position_from_at i (k ∷ ks) l j e = elim (cases_Bool (eqb k l)) [
-  | inl h ↦
-      let z : ◌≡◌ {A = Option ℕ} (Some i) (Some j) = sym (cond-true (eqb k l) (Some i) (position_from (suc i) ks l) h) ∙ e in
-      let y : i ≡ j = cc in
-      (0, omega arith, (omega arith, eqb-true k l h))
-  | inr h ↦
-      let a = position_from_at (suc i) ks l j (sym (cond-false (eqb k l) (Some i) (position_from (suc i) ks l) h) ∙ e) in
-      (suc a.0, omega (arith, a.1), (omega (arith, a.2.0), a.2.1))
-]
-
 pub position_at : (ls : List ℕ) (l j : ℕ) → position ls l ≡ Some j → At ls l j
 position_at ls l j e =
-    let a = position_from_at 0 ls l j e in
+    let a = P.position_at ls 0 l j e in
     let z : a.0 ≡ j = omega (arith, a.1) in
-    rw z at a.2
+    subst (λ (n : ℕ). At ls l n) z (a.2, a.3)
 
 pub position_some : (ls : List ℕ) (l : ℕ) → among l ls ≡ true → (j : ℕ) × (position ls l ≡ Some j)
 position_some ls l e = is_some (position ls l) (position_among 0 ls l ∙ e)

@@ -8,18 +8,18 @@ use Rattle.property.specs.declared.node.Node as P
 use Rattle.property.specs.declared.node.Node.TheVariants as V
 use Rattle.property.specs.Checks.{most_nodes}
 use Rattle.property.specs.Meant.{meant}
-use Rattle.property.specs.Nodes.{Node, Nothing, Sequence, Both, Lap, All, node}
+use Rattle.property.specs.Nodes.{Node, Sequence, Both, Lap, All, node}
 use Rattle.property.specs.Numbered.{before}
 use Rattle.property.specs.Placed.{stored}
 use Rattle.property.specs.Sized.{most_size, cut}
-use Rattle.property.specs.Sizes.{size, size_by}
+use Rattle.property.specs.Sizes.{size}
 use Rattle.property.proofs.Meaning.{node_meant}
 use Rattle.property.proofs.Numbering.{before_lt}
 use Rattle.places.specs.Walks.{Walk, then_second, sequence_walk, both_walk, meet, shift}
 use Rattle.places.specs.declared.outcome.Outcome.{Outcome}
 use Rattle.places.specs.declared.outcome.Outcome.TheVariants.{Dead, Done, At}
 use Rattle.places.proofs.Branches.{sound_as}
-use Rattle.places.proofs.Equations.{size_is}
+use Rattle.places.proofs.Equations.{size_of_kind}
 use Rattle.places.proofs.Falling.{Below}
 use Rattle.synthesis.specs.declared.course.Course.{Course}
 use Rattle.synthesis.specs.Courses.{Ready, PlaceOf, Row, course, nodes_of, letters_of}
@@ -72,14 +72,8 @@ module _ (c : Course) (ready : Ready c) where
   abbrev nodes : List Node
   nodes = nodes_of c
 
-  size_as : (n : ℕ) (x : Node) → node nodes n ≡ x → size nodes n ≡ size_by nodes (before 0 n (λ m. size nodes m)) n x
-  size_as n x e = size_is nodes n ∙ ap (size_by nodes (before 0 n (λ m. size nodes m)) n) e
-
   earlier_size : (n m : ℕ) → m < n → before 0 n (λ m. size nodes m) m ≡ size nodes m
   earlier_size n m h = before_lt 0 n (λ m. size nodes m) m h
-
-  pub nothing_size : (n : ℕ) → node nodes n ≡ Nothing → size nodes n ≡ 0
-  nothing_size n e = size_as n Nothing e
 
   -- the nodes that a Sequence names
   pub record Summed (n a b : ℕ) : Type 0 where
@@ -93,7 +87,7 @@ module _ (c : Course) (ready : Ready c) where
       record {
         first = s.0.0;
         second = s.1.0;
-        sum = size_as n (Sequence a b) e ∙ ap₂ (λ x y. x + y) (earlier_size n a s.0.0) (earlier_size n b s.1.0);
+        sum = size_of_kind nodes n (Sequence a b) e ∙ ap₂ (λ x y. x + y) (earlier_size n a s.0.0) (earlier_size n b s.1.0);
       }
 
   -- the nodes that a Both or an All names
@@ -111,14 +105,14 @@ module _ (c : Course) (ready : Ready c) where
       record {
         first = s.0.0;
         second = s.1.0;
-        product = size_as n (Both a b) e ∙ ap₂ (λ x y. x * y) (earlier_size n a s.0.0) (earlier_size n b s.1.0);
+        product = size_of_kind nodes n (Both a b) e ∙ ap₂ (λ x y. x * y) (earlier_size n a s.0.0) (earlier_size n b s.1.0);
       }
   product_parts n a b (inr e) =
       let s = sound_as (letters_of c) nodes ready.grounded.sound n (All a b) e in
       record {
         first = s.0.0;
         second = s.1.0;
-        product = size_as n (All a b) e ∙ ap₂ (λ x y. x * y) (earlier_size n a s.0.0) (earlier_size n b s.1.0);
+        product = size_of_kind nodes n (All a b) e ∙ ap₂ (λ x y. x * y) (earlier_size n a s.0.0) (earlier_size n b s.1.0);
       }
 
   -- the node that a Lap names
@@ -129,7 +123,7 @@ module _ (c : Course) (ready : Ready c) where
   pub lap_part : (n a : ℕ) → node nodes n ≡ Lap a → Lapped n a
   lap_part n a e =
       let s = sound_as (letters_of c) nodes ready.grounded.sound n (Lap a) e in
-      record { first = s.0.0; largest = size_as n (Lap a) e ∙ ap (max 1) (earlier_size n a s.0.0) }
+      record { first = s.0.0; largest = size_of_kind nodes n (Lap a) e ∙ ap (max 1) (earlier_size n a s.0.0) }
 
   -- the kept start of a node of few places
   pub start_is : (n : ℕ) → n < length nodes → size nodes n ≤ most_size → get_or c.starts n Dead ≡ (course nodes n).start

@@ -6,7 +6,7 @@ use Rattle.property.specs.Nodes.{Node, Nothing, Choice, Sequence, Both, Lap, All
 use Rattle.property.specs.Numbered.{before}
 use Rattle.property.specs.Placed.{nodes_in}
 use Rattle.property.specs.Sized.{most_size, cut}
-use Rattle.property.specs.Sizes.{in_family, size, size_by}
+use Rattle.property.specs.Sizes.{in_family, size}
 use Rattle.property.specs.Sound.{Sound}
 use Rattle.property.proofs.Families.{itself_in_family}
 use Rattle.property.proofs.Numbering.{before_lt}
@@ -15,7 +15,7 @@ use Rattle.places.specs.declared.outcome.Outcome.{Outcome}
 use Rattle.places.specs.declared.outcome.Outcome.TheVariants.{Dead, Done, At}
 use Rattle.places.proofs.Branches.{sound_as}
 use Rattle.places.proofs.Choices.{offset_next}
-use Rattle.places.proofs.Equations.{size_is}
+use Rattle.places.proofs.Equations.{size_of_kind}
 use Rattle.places.proofs.Falling.{Below}
 use Rattle.synthesis.specs.Courses.{Grounded, Grounds, StartsKept, course, letters_of, nodes_of}
 use Rattle.synthesis.specs.Outcomes.{Like, after_first, kept, lap_start}
@@ -82,32 +82,29 @@ like_lap k Done r l = (0, ap lap_start l, omega arith, λ g. refl)
 like_lap k (At p) r l = (l.0, ap lap_start l.1, l.2, λ g. l.3 (omega arith))
 
 module _ (alphabet : List ℕ) (nodes : List Node) (sound : Sound alphabet nodes) where
-  size_by_kind : (n : ℕ) (x : Node) → node nodes n ≡ x → size nodes n ≡ size_by nodes (before 0 n (λ m. size nodes m)) n x
-  size_by_kind n x e = size_is nodes n ∙ ap (λ y. size_by nodes (before 0 n (λ m. size nodes m)) n y) e
-
   size_before : (n m : ℕ) → m < n → before 0 n (λ k. size nodes k) m ≡ size nodes m
   size_before n m h = before_lt 0 n (λ k. size nodes k) m h
 
   pub size_nothing : (n : ℕ) → node nodes n ≡ Nothing → size nodes n ≡ 0
-  size_nothing n e = size_by_kind n Nothing e
+  size_nothing n e = size_of_kind nodes n Nothing e
 
   pub size_sequence : (n a b : ℕ) → node nodes n ≡ Sequence a b → size nodes n ≡ size nodes a + size nodes b
   size_sequence n a b e =
       let s = sound_as alphabet nodes sound n (Sequence a b) e in
-      size_by_kind n (Sequence a b) e ∙ ap₂ (λ x y. x + y) (size_before n a s.0.0) (size_before n b s.1.0)
+      size_of_kind nodes n (Sequence a b) e ∙ ap₂ (λ x y. x + y) (size_before n a s.0.0) (size_before n b s.1.0)
 
   pub size_both : (n a b : ℕ) → node nodes n ≡ Both a b → size nodes n ≡ size nodes a * size nodes b
   size_both n a b e =
       let s = sound_as alphabet nodes sound n (Both a b) e in
-      size_by_kind n (Both a b) e ∙ ap₂ (λ x y. x * y) (size_before n a s.0.0) (size_before n b s.1.0)
+      size_of_kind nodes n (Both a b) e ∙ ap₂ (λ x y. x * y) (size_before n a s.0.0) (size_before n b s.1.0)
 
   pub size_all : (n a b : ℕ) → node nodes n ≡ All a b → size nodes n ≡ size nodes a * size nodes b
   size_all n a b e =
       let s = sound_as alphabet nodes sound n (All a b) e in
-      size_by_kind n (All a b) e ∙ ap₂ (λ x y. x * y) (size_before n a s.0.0) (size_before n b s.1.0)
+      size_of_kind nodes n (All a b) e ∙ ap₂ (λ x y. x * y) (size_before n a s.0.0) (size_before n b s.1.0)
 
   pub size_lap : (n a : ℕ) → node nodes n ≡ Lap a → size nodes n ≡ max 1 (size nodes a)
-  size_lap n a e = let s = sound_as alphabet nodes sound n (Lap a) e in size_by_kind n (Lap a) e ∙ ap (λ x. max 1 x) (size_before n a s.0.0)
+  size_lap n a e = let s = sound_as alphabet nodes sound n (Lap a) e in size_of_kind nodes n (Lap a) e ∙ ap (λ x. max 1 x) (size_before n a s.0.0)
 
   -- a Choice's places are those of its family, its own the last
   pub size_family : (n : ℕ) (bs : List (ℕ × ℕ)) → node nodes n ≡ Choice bs

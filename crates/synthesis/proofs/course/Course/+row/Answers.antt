@@ -1,5 +1,6 @@
 use Rattle.std.proofs.Common.{length, ap, ◌∙◌, arith}
-use Rattle.synthesis.proofs.Lines.{many, few_nodes, named, named_product, nothing_size, sequence_parts, product_parts, lap_part, sequence_second, sequence_first, row_second, row_first, row_choice, product_positive, product_first, product_second, row_product, lap_place, row_lap}
+use Rattle.synthesis.proofs.Lines.{many, few_nodes, named, named_product, sequence_parts, product_parts, lap_part, sequence_second, sequence_first, row_second, row_first, row_choice, product_positive, product_first, product_second, row_product, lap_place, row_lap}
+use Rattle.synthesis.proofs.Starting.{size_nothing}
 use Rattle.synthesis.proofs.course.Course.+row.Goals as goal
 
 pub offset_bounds-nodes-n : goal.offset_bounds-nodes-n
@@ -11,7 +12,7 @@ bounds-nodes-n t c = omega (arith, many c.args.self.now, ap length c.nodes.ensur
 pub returns-in-Nothing : goal.returns-in-Nothing
 returns-in-Nothing t c j i =
     let e = named c.args.self.now _ _ _ c.nodes.ensures.value c.in-Nothing.is in
-    absurd (omega (arith, nothing_size c.args.self.now c.requires.ready _ e, c.requires.place.inside))
+    absurd (omega (arith, size_nothing _ _ c.requires.ready.grounded.sound _ e, c.requires.place.inside))
 
 pub row_of_choice-requires : goal.row_of_choice-requires
 row_of_choice-requires t c = record {

@@ -9,6 +9,9 @@ mod methods;
 /// The most letters that an alphabet holds.
 pub const MOST_LETTERS: usize = 32;
 
+/// The most letters that a declaration names: tick and end are not declared.
+pub const MOST_DECLARED: usize = MOST_LETTERS - 2;
+
 /// The letters that a rule speaks of: strictly ascending, with tick and end among them.
 #[derive(Drop)]
 pub struct Alphabet {

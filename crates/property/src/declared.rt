@@ -1,13 +1,10 @@
 ghost use Rattle.std.specs.Prelude.{◌≡◌, ◌≤◌, false, take, is_some};
 ghost use Rattle.letters.specs.Alphabets.{first_barred, most_declared};
 
-use letters::alphabet::MOST_LETTERS;
+use letters::alphabet::MOST_DECLARED;
 use letters::letter::Letter;
 
 mod methods;
-
-/// The most letters that a property declares: tick and end are not declared.
-pub(crate) const MOST_DECLARED: usize = MOST_LETTERS - 2;
 
 /// The letters that a property has declared so far.
 #[derive(Drop)]

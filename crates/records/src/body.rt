@@ -1,5 +1,6 @@
-ghost use Rattle.std.specs.Prelude.{◌≡◌};
+ghost use Rattle.std.specs.Prelude.{◌≡◌, [], ◌∷◌};
 ghost use Rattle.records.specs.Bodies.{number_at, branches_in, branch_at};
+ghost use Rattle.records.specs.Records.{two_bytes};
 
 use letters::letter::Letter;
 
@@ -14,6 +15,13 @@ pub const BRANCH_BYTES: usize = 3;
 pub struct Branch {
     pub letter: Letter,
     pub node: usize,
+}
+
+/// The number in two bytes, the lower first.
+pub fn two_bytes(low: u8, high: u8) -> usize
+    ensures { result ≡ two_bytes (low ∷ high ∷ []) 0 }
+{
+    usize::from(u16::from_le_bytes([low, high]))
 }
 
 /// The number in two bytes of a body, the lower first, or none past its end.

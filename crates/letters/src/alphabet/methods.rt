@@ -2,12 +2,9 @@ ghost use Rattle.std.specs.Prelude.{◌≡◌, Bool, is_some};
 ghost use Rattle.letters.specs.Alphabets.{among, barred, bare, position};
 ghost use Rattle.letters.specs.Declarations.{letters_of, barred_report, declared, after, Kept};
 
-use crate::alphabet::{Alphabet, Barred, MOST_LETTERS};
+use crate::alphabet::{Alphabet, Barred, MOST_DECLARED, MOST_LETTERS};
 use crate::letter::{END, Letter, TICK, read};
 use crate::refusal::Report;
-
-/// The most letters that a declaration names: tick and end are not declared.
-const MOST_DECLARED: usize = MOST_LETTERS - 2;
 
 impl Barred {
     /// The refusal's layer, number and offset.

@@ -3,8 +3,8 @@ ghost use Rattle.letters.specs.Alphabets.{barred, first_barred};
 ghost use Rattle.property.specs.Checks.{least_past};
 ghost use Rattle.property.specs.Drafts.{declared_in};
 
-use crate::declared::{Declared, MOST_DECLARED};
-use letters::alphabet::is_barred;
+use crate::declared::Declared;
+use letters::alphabet::{MOST_DECLARED, is_barred};
 use letters::letter::Letter;
 
 impl Declared {

@@ -1,6 +1,8 @@
 ghost use Rattle.std.specs.Prelude.{◌≡◌};
 ghost use Rattle.letters.specs.Letters.{letter, insertable, Decodes};
 
+use std::fmt;
+
 /// A letter as it stands in files, lines and outputs: its kind's number times `NUMBERS_A_KIND`, plus its own number.
 pub type Letter = u8;
 
@@ -31,6 +33,19 @@ pub enum Kind {
     Command,
     Tick,
     End,
+}
+
+impl fmt::Display for Kind {
+    fn fmt<W: fmt::Write>(&self, f: &mut fmt::Formatter<W>) -> fmt::Result {
+        f.write_str(match self {
+            Kind::Sensor => "sensor",
+            Kind::Received => "received",
+            Kind::Sent => "sent",
+            Kind::Command => "command",
+            Kind::Tick => "tick",
+            Kind::End => "end",
+        })
+    }
 }
 
 /// The kind and the number of a letter, or none where the byte is no letter.

@@ -1,9 +1,13 @@
 -- What stands at an offset, case by case.
-use Rattle.std.proofs.Common.{◌≡◌, ℕ, ◌+◌, ◌<◌, ◌≤◌, Bool, true, false, cond, eqb, ltb, List, length, take, drop, refl, arith, length-drop, drop_of_length-le, length-take, ltb-false, le-ltb, lt-ltb, ne_eqb, eqb-true}
+use Rattle.std.proofs.Common.{◌≡◌, ℕ, ◌+◌, ◌-◌, ◌<◌, ◌≤◌, Bool, true, false, cond, eqb, ltb, List, length, take, drop, refl, arith, length-drop, drop_of_length-le, length-take, take_all, ltb-false, le-ltb, lt-ltb, ne_eqb, eqb-true}
 use Rattle.records.specs.declared.fault.ReadFault.TheVariants.{CutOff}
 use Rattle.records.specs.Faults.{read_report}
 use Rattle.records.specs.Records.{two_bytes, header_bytes, is_kind, suits}
 use Rattle.records.specs.Readings.{Item, bytes_of, Found, Over, Holds, Refused, found_in, found_at, judged}
+
+-- what a slice from an index on holds
+pub from_on : (at : ℕ) (bytes : List ℕ) → take (length bytes - at) (drop at bytes) ≡ drop at bytes
+from_on at bytes = take_all _ (drop at bytes) (simp length-drop (omega arith))
 
 pub over : (file : List ℕ) (at : ℕ) → length file ≤ at → found_at file at ≡ Over
 unfolding found_at found_in

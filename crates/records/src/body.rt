@@ -28,10 +28,9 @@ pub fn two_bytes(low: u8, high: u8) -> usize
 pub fn number(bytes: &[u8], at: usize) -> Option<usize>
     ensures { result ≡ number_at bytes.now at }
 {
-    if at < bytes.len() && bytes.len() - at > 1 {
-        Some(bytes[at] as usize + 256 * bytes[at + 1] as usize)
-    } else {
-        None
+    match bytes.get(at..)? {
+        [low, high, ..] => Some(two_bytes(*low, *high)),
+        _ => None,
     }
 }
 
@@ -50,9 +49,8 @@ pub fn branch_at(body: &[u8], index: usize) -> Option<Branch>
         return None;
     }
     let at = BRANCH_BYTES * index;
-    let node = body[at + 1] as usize + 256 * body[at + 2] as usize;
     Some(Branch {
         letter: body[at],
-        node,
+        node: two_bytes(body[at + 1], body[at + 2]),
     })
 }

@@ -1,7 +1,9 @@
 ghost use Rattle.std.specs.Prelude.{◌≡◌};
 ghost use Rattle.records.specs.Faults.{read_report};
 
+use crate::reader::MOST_BYTES;
 use letters::refusal::Report;
+use std::fmt;
 
 /// What is wrong with a file's records, with the offset of the record.
 #[derive(Clone, Copy, PartialEq, Eq, Debug)]
@@ -27,6 +29,17 @@ impl ReadFault {
             layer: 1,
             number,
             offset,
+        }
+    }
+}
+
+impl fmt::Display for ReadFault {
+    fn fmt<W: fmt::Write>(&self, f: &mut fmt::Formatter<W>) -> fmt::Result {
+        match self {
+            ReadFault::TooLong => write!(f, "the file is over {MOST_BYTES} bytes"),
+            ReadFault::CutOff(_) => f.write_str("the record is cut off"),
+            ReadFault::UnknownKind(_) => f.write_str("there is no such kind of record"),
+            ReadFault::WrongLength(_) => f.write_str("the length is wrong for the kind"),
         }
     }
 }

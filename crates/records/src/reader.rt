@@ -1,9 +1,8 @@
-ghost use Rattle.std.specs.Prelude.{◌≡◌, ◌<◌, ◌≤◌, length, take, drop};
-ghost use Rattle.records.specs.Records.{suits};
+ghost use Rattle.std.specs.Prelude.{◌≡◌, ◌<◌, length};
 ghost use Rattle.records.specs.Readings.{found_in, found_at, judged, Whole};
 ghost use Rattle.records.specs.Readers.{told_record, told, past, Opened, Hands};
 
-use crate::body::{BRANCH_BYTES, MOST_BRANCHES};
+use crate::body::{BRANCH_BYTES, MOST_BRANCHES, two_bytes};
 use crate::fault::ReadFault;
 use crate::record::Record;
 
@@ -20,14 +19,8 @@ pub struct Reader<'a> {
     at: usize,
 }
 
-/// Whether a Choice may have a body of this length: 1 to 32 branches.
-fn suits_choice(length: usize) -> bool
-    ensures { result ≡ suits 3 length }
-{
-    length > 0 && length <= MOST_BRANCHES * BRANCH_BYTES && length % BRANCH_BYTES == 0
-}
-
 /// The body as a record of the kind, if there is such a kind and the body's length suits it.
+// The kinds' numbers stand here alone, since a record is the enum of its kind.
 fn record_of<'a>(kind: usize, body: &'a [u8], at: usize) -> Result<Record<'a>, ReadFault>
     ensures { told_record at result ≡ judged kind body.now at }
 {
@@ -35,7 +28,8 @@ fn record_of<'a>(kind: usize, body: &'a [u8], at: usize) -> Result<Record<'a>, R
     match kind {
         1 if length == 1 => Ok(Record::Letter(body)),
         2 if length == 0 => Ok(Record::Nothing(body)),
-        3 if suits_choice(length) => Ok(Record::Choice(body)),
+        3 if (1..=MOST_BRANCHES * BRANCH_BYTES).contains(&length) && length % BRANCH_BYTES == 0 =>
+            Ok(Record::Choice(body)),
         4 if length == 4 => Ok(Record::Sequence(body)),
         5 if length == 4 => Ok(Record::Both(body)),
         6 if length == 2 => Ok(Record::Lap(body)),
@@ -45,37 +39,19 @@ fn record_of<'a>(kind: usize, body: &'a [u8], at: usize) -> Result<Record<'a>, R
     }
 }
 
-/// The bytes from an index on.
-fn from<'a>(bytes: &'a [u8], at: usize) -> &'a [u8]
-    requires { at ≤ length bytes.now }
-    ensures { result.now ≡ drop at bytes.now }
-{
-    &bytes[at..]
-}
-
-/// The first bytes.
-fn first<'a>(bytes: &'a [u8], count: usize) -> &'a [u8]
-    requires { count ≤ length bytes.now }
-    ensures { result.now ≡ take count bytes.now }
-{
-    &bytes[0..count]
-}
-
 /// The record that the bytes begin with; they stand in the file at `at`.
 fn first_record<'a>(rest: &'a [u8], at: usize) -> Result<Record<'a>, ReadFault>
     requires { 0 < length rest.now }
     ensures { told_record at result ≡ found_in rest.now at }
 {
-    if rest.len() < HEADER_BYTES {
+    let [low, high, kind_low, kind_high, body @ ..] = rest else {
         return Err(ReadFault::CutOff(at));
+    };
+    let kind = two_bytes(*kind_low, *kind_high);
+    match body.get(..two_bytes(*low, *high)) {
+        Some(body) => record_of(kind, body, at),
+        None => Err(ReadFault::CutOff(at)),
     }
-    let length = rest[0] as usize + 256 * rest[1] as usize;
-    let kind = rest[2] as usize + 256 * rest[3] as usize;
-    let body = from(rest, HEADER_BYTES);
-    if body.len() < length {
-        return Err(ReadFault::CutOff(at));
-    }
-    record_of(kind, first(body, length), at)
 }
 
 impl<'a> Reader<'a> {
@@ -101,7 +77,7 @@ impl<'a> Reader<'a> {
         if at >= self.file.len() {
             return Ok(None);
         }
-        let record = first_record(from(self.file, at), at)?;
+        let record = first_record(&self.file[at..], at)?;
         self.at = at + HEADER_BYTES + record.body().len();
         Ok(Some((record, at)))
     }

@@ -19,13 +19,13 @@ impl<'a> Record<'a> {
         ensures { result.now ≡ body_of self.entry }
     {
         match self {
-            Record::Letter(body) => body,
-            Record::Nothing(body) => body,
-            Record::Choice(body) => body,
-            Record::Sequence(body) => body,
-            Record::Both(body) => body,
-            Record::Lap(body) => body,
-            Record::All(body) => body,
+            Record::Letter(body)
+            | Record::Nothing(body)
+            | Record::Choice(body)
+            | Record::Sequence(body)
+            | Record::Both(body)
+            | Record::Lap(body)
+            | Record::All(body) => body,
         }
     }
 }

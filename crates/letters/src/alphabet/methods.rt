@@ -1,5 +1,5 @@
-ghost use Rattle.std.specs.Prelude.{◌≡◌, Bool, is_some};
-ghost use Rattle.letters.specs.Alphabets.{among, barred, bare, position};
+ghost use Rattle.std.specs.Prelude.{◌≡◌, None, ◌++◌};
+ghost use Rattle.letters.specs.Alphabets.{among, barred, bare, first_barred, position};
 ghost use Rattle.letters.specs.Declarations.{letters_of, barred_report, declared, after, Kept};
 
 use crate::alphabet::{Alphabet, Barred, MOST_DECLARED, MOST_LETTERS};
@@ -26,38 +26,61 @@ pub fn is_barred(least: usize, index: usize, byte: Letter) -> bool
     read(byte).is_none()
         || byte == TICK
         || byte == END
-        || (byte as usize) < least
+        || usize::from(byte) < least
         || index >= MOST_DECLARED
+}
+
+/// The place of the first byte that may not be declared, if there is one.
+fn first_barred(bytes: &[Letter]) -> Option<usize>
+    ensures { result ≡ first_barred 0 0 bytes.now }
+{
+    let mut least = 0;
+    for (index, byte) in bytes.iter().enumerate() {
+        if is_barred(least, index, *byte) {
+            return Some(index);
+        }
+        least = usize::from(*byte) + 1;
+    }
+    None
 }
 
 /// The index of a letter in a list of letters.
 pub fn index_of(letters: &[Letter], letter: Letter) -> Option<usize>
     ensures { result ≡ position letters.now letter }
 {
-    for (i, l) in letters.iter().enumerate() {
-        if *l == letter {
-            return Some(i);
-        }
-    }
-    None
+    letters.iter().position(|l| *l == letter)
 }
 
 /// Whether a list of letters has a letter.
 pub fn contains(letters: &[Letter], letter: Letter) -> bool
     ensures { result ≡ among letter letters.now }
 {
-    index_of(letters, letter).is_some()
+    letters.contains(&letter)
 }
 
 impl Alphabet {
+    /// Letters that may be declared, with tick and end, which are above them.
+    #[tactic(auto, using(crate::proofs::Declaring::few_enough))]
+    fn of(bytes: &[Letter]) -> Self
+        requires { first_barred 0 0 bytes.now ≡ None }
+        ensures { letters_of result ≡ bytes.now ++ bare }
+    {
+        let count = bytes.len();
+        let mut letters = [0; MOST_LETTERS];
+        letters[..count].copy_from_slice(bytes);
+        letters[count] = TICK;
+        letters[count + 1] = END;
+        Alphabet {
+            letters,
+            count: count + 2,
+        }
+    }
+
     /// Tick and end alone.
     pub fn new() -> Self
         ensures { letters_of result ≡ bare }
     {
-        let mut letters = [0; MOST_LETTERS];
-        letters[0] = TICK;
-        letters[1] = END;
-        Alphabet { letters, count: 2 }
+        Alphabet::of(&[])
     }
 
     /// The letters in order.
@@ -73,20 +96,13 @@ impl Alphabet {
         ensures written { letters_of self.new ≡ after (letters_of self.old) bytes.now }
         ensures kept { Kept result self.old self.new }
     {
-        let mut letters = [0; MOST_LETTERS];
-        let mut least = 0;
-        for (i, byte) in bytes.iter().enumerate() {
-            if is_barred(least, i, *byte) {
-                return Err(Barred { offset: i });
+        match first_barred(bytes) {
+            Some(offset) => Err(Barred { offset }),
+            None => {
+                *self = Alphabet::of(bytes);
+                Ok(())
             }
-            letters[i] = *byte;
-            least = *byte as usize + 1;
         }
-        letters[bytes.len()] = TICK;
-        letters[bytes.len() + 1] = END;
-        self.letters = letters;
-        self.count = bytes.len() + 2;
-        Ok(())
     }
 
     /// The index of a letter among the alphabet's letters.

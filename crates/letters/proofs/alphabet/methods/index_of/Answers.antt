@@ -1,16 +1,10 @@
-use Rattle.std.proofs.Common.{◌∙◌, arith}
-use Rattle.letters.proofs.Positions.{position_found, position_more, position_none}
+use Rattle.std.proofs.Common.{eqb, ◌∙◌, rules, tests}
+use Rattle.std.proofs.lemmas.Iterator.{YieldsList-from_slice}
+use Rattle.std.proofs.lemmas.Iterator.Search.{position_from_yields_List}
+use Rattle.letters.proofs.Positions.{searched}
 use Rattle.letters.proofs.alphabet.methods.index_of.Goals as goal
-
-pub returns-then-l-letter : goal.returns-then-l-letter
-returns-then-l-letter c =
-    let e = position_found c.args.letters.now c.loop-i.i c.args.letter (omega arith) (omega arith) in
-    cc
-
-pub loop-i-preserved : goal.loop-i-preserved
-loop-i-preserved c = c.loop-i.invariant ∙ position_more c.args.letters.now c.loop-i.i c.args.letter (omega arith) (omega arith)
 
 pub returns : goal.returns
 returns c =
-    let e = position_none c.args.letters.now c.loop-i.i c.args.letter (omega arith) in
-    cc
+    position_from_yields_List (λ k. eqb k c.args.letter) _ _ _ c.position.ensures.ran (YieldsList-from_slice c.args.letters.now cc) (λ x b q k. search (rules, tests))
+    ∙ searched c.args.letters.now c.args.letter

@@ -10,11 +10,7 @@ returns-in_err-run g c =
     record { told = rw p.1 tt; guarded = guarded (meaning g.R.Rule c.args.rule.now) }
 
 pub loop-call-preserved : goal.loop-call-preserved
-loop-call-preserved g c =
-    let told = c.in_ok-run.ensures in
-    sofar_more _ _ _ _ _ _ _ _ _ c.loop-call.invariant c.loop-call-test.true told.guard told.replies told.line_is
+loop-call-preserved g c = sofar_more _ _ _ _ _ c.loop-call.invariant c.loop-call-test.true c.in_ok-run.ensures
 
 pub returns : goal.returns
-returns g c =
-    let all = sofar_all _ _ _ _ _ _ c.loop-call.invariant c.loop-call-test.false in
-    record { told = record { replies = all.answers; line_is = all.writes; guard_is = all.goes }; guarded = guarded (meaning g.R.Rule c.args.rule.now) }
+returns g c = record { told = sofar_all _ _ _ _ c.loop-call.invariant c.loop-call-test.false; guarded = guarded (meaning g.R.Rule c.args.rule.now) }

@@ -48,9 +48,8 @@ impl<R: Rule> Cap<R> {
         ensures { result ≡ cond (cap_live (meaning R.Rule self.now.below) (place / (self.now.k + 1)) (place % (self.now.k + 1))) (Some (place / (self.now.k + 1))) None }
     {
         let below = self.place_below(place);
-        (self.below.is_live(below) && self.below.owed_at(below) <= self.left_at(place)).then_some(
-            below,
-        )
+        let fits = self.below.is_live(below) && self.below.owed_at(below) <= self.left_at(place);
+        fits.then_some(below)
     }
 
     /// The cap of `k` over a rule; a refusal drops the rule.
@@ -67,6 +66,7 @@ impl<R: Rule> Cap<R> {
         if u64::from(below.place_count()) * (u64::from(k) + 1) > MOST_PLACES {
             return Err(RuleFault::Places);
         }
+        // A cast, since the bound is `MOST_NUMBER` and not what a byte happens to hold.
         Ok(Cap { below, k: k as u8 })
     }
 

@@ -24,6 +24,7 @@ impl<'a> Count<'a> {
         }
         Ok(Count {
             letters: alphabet.letters(),
+            // A cast, since the bound is `MOST_NUMBER` and not what a byte happens to hold.
             k: k as u8,
         })
     }

@@ -1,20 +1,19 @@
 -- Calls for offers under a lawful rule: a begin is made exactly where no cycle is open, and each call is taken.
-use Rattle.std.proofs.Common.{◌≡◌, ℕ, ◌<◌, Bool, true, false, cond, not, eqb, leb, List, [], ◌∷◌, ◌++◌, sym, refl, ap, ◌∙◌, subst, arith}
+use Rattle.std.proofs.Common.{◌≡◌, ℕ, ◌<◌, Bool, true, false, cond, not, eqb, List, [], ◌∷◌, ◌++◌, sym, refl, ap, ◌∙◌, subst, arith}
 use mathlib.Core.List.{nil≢cons, head-eq_of_cons-eq, tail-eq_of_cons-eq}
-use Rattle.std.proofs.lemmas.Bool.{lt-leb}
 use Rattle.letters.specs.Letters.{end}
 use Rattle.rules.specs.Meaning.{Meaning, Lawful}
 use Rattle.guard.specs.declared.calls.Running.{Running}
-use Rattle.guard.specs.declared.refusal.Refusal.TheVariants.{NotLive, Short}
 use Rattle.guard.specs.declared.runs.Call.{Call}
 use Rattle.guard.specs.declared.runs.Call.TheVariants.{Begin, Act, Close}
 use Rattle.guard.specs.declared.runs.Guard.{Guard}
 use Rattle.guard.specs.declared.runs.Guard.TheVariants.{AtRest, InCycle}
-use Rattle.guard.specs.Calls.{running, barred, closed, closing}
+use Rattle.guard.specs.Calls.{running, closed, closing}
 use Rattle.guard.specs.Histories.{close_step, step, events, started, run_of}
 use Rattle.guard.specs.Runs.{Event, open_after, in_cycle, takes}
 use Rattle.guard.proofs.Steps.{place_of, inside, made, step_inside, step_live}
 use Rattle.guard.proofs.Taken.{answered}
+use Rattle.guard.proofs.Writing.{is_closed}
 use Rattle.enforcer.specs.Offers.{offered, calls_from, calls_of, is_begin, BeginsAtRest}
 
 -- begins are made exactly where no cycle is open, where `was` says so of before the events
@@ -50,10 +49,7 @@ takes_it false (Close room) h = h
 module _ (m : Meaning) (lawful : Lawful m) (room : ℕ) (fits : m.most < room) where
   -- a close at a live place is not refused
   closes : (g : Running) → m.live g.place ≡ true → closing m g room ≡ closed
-  closes g live =
-      let short : leb room (m.owed g.place) ≡ false = lt-leb room (m.owed g.place) (omega (arith, lawful.laws.at_most g.place live, fits)) in
-      ap (λ b. cond (not b) (barred NotLive) (cond (leb room (m.owed g.place)) (barred Short) closed)) live
-      ∙ ap (λ b. cond b (barred Short) closed) short
+  closes g live = is_closed m g room live (omega (arith, lawful.laws.at_most g.place live, fits))
 
   -- after an offer a cycle is open where it was not the end
   offered_inside : (g : Running) (a : ℕ) → m.live g.place ≡ true → inside (step m (InCycle g) (offered room a)).guard ≡ not (eqb a end)

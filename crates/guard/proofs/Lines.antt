@@ -1,8 +1,9 @@
 -- Events and lists of letters: what an event adds to the line and to the offers, and lists with the end left out.
-use Rattle.std.proofs.Common.{◌≡◌, ℕ, Bool, true, false, cond, eqb, List, [], ◌∷◌, ◌++◌, sym, refl, ap, ◌∙◌}
-use Rattle.std.proofs.lemmas.Bool.{eqb-false, ne_eqb, false≢true}
-use Rattle.letters.specs.Letters.{end, insertable}
+use Rattle.std.proofs.Common.{◌≡◌, ℕ, Bool, true, false, cond, eqb, List, [], ◌∷◌, ◌++◌, refl, ap, ◌∙◌}
+use Rattle.std.proofs.lemmas.Bool.{eqb-false, ne_eqb}
+use Rattle.letters.specs.Letters.{end}
 use Rattle.rules.specs.Lists.{Insertable, Endless}
+use Rattle.rules.proofs.Follows.{not_end}
 use Rattle.guard.specs.Runs.{Event, accepted, offer, without_end}
 
 -- what an event adds to the line, and to the offers
@@ -12,13 +13,9 @@ written e = cond (accepted e.reply) e.wrote []
 abbrev pub offered : Event → List ℕ
 offered e = cond (accepted e.reply) (offer e.call) []
 
--- the end is not insertable
-inserts_no_end : (a : ℕ) → insertable a ≡ true → a ≡ end → ⊥
-inserts_no_end a can e = false≢true (sym (ap insertable e) ∙ can)
-
 pub insertable_endless : (xs : List ℕ) → Insertable xs → Endless xs
 insertable_endless [] i = tt
-insertable_endless (a ∷ xs) i = (inserts_no_end a i.0, insertable_endless xs i.1)
+insertable_endless (a ∷ xs) i = (not_end a i.0, insertable_endless xs i.1)
 
 endless_cond : (b : Bool) (a : ℕ) (xs : List ℕ) → eqb a end ≡ b → Endless xs → Endless (cond b xs (a ∷ xs))
 endless_cond true a xs e h = h

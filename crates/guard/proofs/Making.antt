@@ -1,41 +1,34 @@
--- What making a call gives, from the answers of act and close.
-use Rattle.std.proofs.Common.{◌≡◌, ℕ, ◌+◌, ◌≤◌, List, [], ◌∷◌, length, take, drop, Ok, Err, Result, sym, refl, ap, ◌∙◌, arith, length-append, length-drop}
+-- What a call wrote, by its answer, and where it stands in the call's output.
+use Rattle.std.proofs.Common.{◌≡◌, ℕ, ◌+◌, ◌≤◌, List, [], ◌∷◌, length, take, drop, sym, refl, ap, ◌∙◌, arith, length-append, length-drop}
 use Rattle.std.proofs.lemmas.List.{take_at}
 use Rattle.letters.specs.Letters.{end}
 use Rattle.rules.specs.Meaning.{Meaning}
-use Rattle.guard.specs.declared.calls.Resting.{Resting}
 use Rattle.guard.specs.declared.calls.Running.{Running}
-use Rattle.guard.specs.declared.refusal.Refusal.{Refusal}
-use Rattle.guard.specs.declared.runs.Guard.TheVariants.{AtRest}
-use Rattle.guard.specs.declared.runs.Reply.{Reply}
-use Rattle.guard.specs.declared.runs.Reply.TheVariants.{Closed, Refused}
-use Rattle.guard.specs.Calls.{over, Acting, refused, dropped, passed, act_answer, Closing, barred, closed, leads, close_answer, close_place, close_writes, resting}
-use Rattle.guard.specs.Histories.{Makes, act_step, close_step}
+use Rattle.guard.specs.declared.runs.Call.{Call}
+use Rattle.guard.specs.declared.runs.Call.TheVariants.{Begin, Act, Close}
+use Rattle.guard.specs.declared.runs.Guard.{Guard}
+use Rattle.guard.specs.declared.runs.Guard.TheVariants.{AtRest, InCycle}
+use Rattle.guard.specs.Calls.{over, Acting, refused, dropped, passed, acting, Closing, barred, closed, closing, leads}
+use Rattle.guard.specs.Histories.{number_written, act_step, close_step, step}
 use Rattle.guard.proofs.Walking.{length_leads}
 
-err_ok : {A B : Type 0} {a : A} {b : B} → ◌≡◌ {A = Result A B} (Err b) (Ok a) → ⊥
-err_ok h = let z : ◌≡◌ {A = ℕ} 0 1 = cc in omega arith
+act_count : (x : Acting) (g : Running) (a : ℕ) → number_written (act_step x g a).reply ≡ length (act_step x g a).wrote
+act_count (refused e) g a = refl
+act_count dropped g a = refl
+act_count (passed q) g a = refl
 
-pub act_refused : (x : Acting) (g : Running) (a : ℕ) (e : Refusal) → act_answer x ≡ Err e → (◌≡◌ {A = Reply} (Refused e) (act_step x g a).reply) × (0 ≡ length (act_step x g a).wrote)
-act_refused (refused f) g a e h = let same : e ≡ f = cc in (ap Refused same, refl)
-act_refused dropped g a e h = absurd (err_ok (sym h))
-act_refused (passed q) g a e h = absurd (err_ok (sym h))
+close_count : (m : Meaning) (x : Closing) (g : Running) → number_written (close_step m x g).reply ≡ length (close_step m x g).wrote
+close_count m (barred e) g = refl
+close_count m closed g = sym (length-append (leads m g.place (m.owed g.place)) (end ∷ []) ∙ ap (λ k. k + 1) (length_leads m g.place (m.owed g.place)))
 
-pub close_made : (m : Meaning) (g : Running) (x : Closing) (r : Resting) (n : ℕ) → Ok (r, n) ≡ close_answer m g x
-    → Makes (close_step m x g) (record { guard = AtRest r; reply = Closed n; count = n })
-close_made m g (barred e) r n h = absurd (err_ok (sym h))
-close_made m g closed r n h =
-    let pair : ◌≡◌ {A = Resting × ℕ} (r, n) (resting (close_place m g), m.owed g.place + 1) = cc in
-    let number : n ≡ m.owed g.place + 1 = ap (λ (p : Resting × ℕ). p.1) pair in
-    record {
-      guard = ap (λ (p : Resting × ℕ). AtRest p.0) pair;
-      reply = ap Closed number;
-      count = number ∙ ap (λ k. k + 1) (sym (length_leads m g.place (m.owed g.place))) ∙ sym (length-append (leads m g.place (m.owed g.place)) (end ∷ []));
-    }
-
-pub close_wrote : (m : Meaning) (g : Running) (x : Closing) → close_writes m g x ≡ (close_step m x g).wrote
-close_wrote m g (barred e) = refl
-close_wrote m g closed = refl
+-- an answer tells how many letters were written
+pub step_count : (m : Meaning) (g : Guard) (c : Call) → number_written (step m g c).reply ≡ length (step m g c).wrote
+step_count m (AtRest g) Begin = refl
+step_count m (AtRest g) (Act a room) = refl
+step_count m (AtRest g) (Close room) = refl
+step_count m (InCycle g) Begin = refl
+step_count m (InCycle g) (Act a room) = act_count (acting m g a room) g a
+step_count m (InCycle g) (Close room) = close_count m (closing m g room) g
 
 -- what was written fits the output, and is its first places
 pub over_within : (ws s t : List ℕ) → t ≡ over ws s → length t ≡ length s → length ws ≤ length s

@@ -1,7 +1,8 @@
 -- What a close writes, letter by letter.
-use Rattle.std.proofs.Common.{◌≡◌, ℕ, suc, ◌+◌, ◌<◌, true, cond, not, leb, List, [], ◌∷◌, ◌++◌, length, drop, set, Ok, Result, sym, refl, ap, ◌∙◌, subst, append_assoc, add-one, length-append, drop-cons}
+use Rattle.std.proofs.Common.{◌≡◌, ℕ, suc, ◌+◌, ◌<◌, true, cond, not, leb, List, [], ◌∷◌, ◌++◌, length, drop, set, Ok, Result, sym, refl, ap, ◌∙◌, subst, append_assoc, append-nil, arith, add-one, length-append, drop-cons}
 use borrow.Author.Tests.{lt-leb}
 use lib.Seq.{set_at}
+use Rattle.std.proofs.lemmas.List.{drop_all}
 use Rattle.letters.specs.Letters.{end}
 use Rattle.rules.specs.Meaning.{Meaning, Lawful}
 use Rattle.guard.specs.declared.calls.Resting.{Resting}
@@ -20,6 +21,12 @@ over_more ws s i v e h =
     ∙ set_at ws _ _ v i e
     ∙ sym (append_assoc ws (v ∷ []) _)
     ∙ ap (λ k. (ws ++ v ∷ []) ++ drop k s) (sym longer)
+
+-- the last letter, written first in the rest of an output
+over_last : (ws s rest : List ℕ) (n v : ℕ) → length ws ≡ n → n < length s → rest ≡ drop n s → ws ++ set rest 0 v ≡ over (ws ++ v ∷ []) s
+over_last ws s rest n v e h back =
+    let longer : length (ws ++ v ∷ []) ≡ suc n = length-append ws (v ∷ []) ∙ add-one (length ws) ∙ ap suc e in
+    ap (λ xs. ws ++ set xs 0 v) (back ∙ drop-cons s n 0 h) ∙ sym (append_assoc ws (v ∷ []) _) ∙ ap (λ k. (ws ++ v ∷ []) ++ drop k s) (sym longer)
 
 -- after i leads from p, over what the output s was
 pub record Sofar (m : Meaning) (p : ℕ) (s : List ℕ) (i : ℕ) (place : ℕ) (out : List ℕ) : Type 0 where
@@ -49,14 +56,17 @@ pub record Ended (m : Meaning) (g : Running) (s : List ℕ) (r : Result (Resting
   pub wrote : out ≡ over (close_writes m g (closing m g (length s))) s
   pub led : Lawful m → CloseByLeads m g r (close_writes m g (closing m g (length s)))
 
--- after all leads and the end
-pub sofar_all : (m : Meaning) (g : Running) (s : List ℕ) (i n place q : ℕ) (out : List ℕ) → m.live g.place ≡ true → n ≡ m.owed g.place → i ≡ n → n < length s
-    → Sofar m g.place s i place out → q ≡ next_of m place end → Ended m g s (Ok (resting q, n + 1)) (set out n end)
-sofar_all m g s i n place q out live en stop h w eq =
+-- after all leads in the output's front, and the end first in the rest
+pub sofar_all : (m : Meaning) (g : Running) (s front rest : List ℕ) (i n place q : ℕ) (way : List ℕ) → m.live g.place ≡ true → n ≡ m.owed g.place → i ≡ n → n < length s
+    → length front ≡ n → rest ≡ drop n s → Sofar m g.place front i place way → q ≡ next_of m place end → Ended m g s (Ok (resting q, n + 1)) (way ++ set rest 0 end)
+sofar_all m g s front rest i n place q way live en stop h long back w eq =
     let p : ℕ = g.place in
     let c : closing m g (length s) ≡ closed = is_closed m g (length s) live (subst (λ k. k < length s) en h) in
     let i_is : i ≡ m.owed p = stop ∙ en in
-    let end_written : set out n end ≡ over (leads m p i ++ end ∷ []) s = ap (λ o. set o n end) w.wrote ∙ over_more (leads m p i) s n end (length_leads m p i ∙ stop) h in
+    let count : length (leads m p i) ≡ n = length_leads m p i ∙ stop in
+    let none : drop (length (leads m p i)) front ≡ [] = drop_all _ front (omega (arith, long, count)) in
+    let way_is : way ≡ leads m p i = w.wrote ∙ ap (λ xs. leads m p i ++ xs) none ∙ append-nil _ in
+    let end_written : way ++ set rest 0 end ≡ over (leads m p i ++ end ∷ []) s = ap (λ xs. xs ++ set rest 0 end) way_is ∙ over_last (leads m p i) s rest n end count h back in
     let made : ◌≡◌ {A = Result (Resting × ℕ) (Running × Refusal)} (Ok (resting q, n + 1)) (close_answer m g closed) =
     ap (λ x. Ok (resting x, n + 1)) (eq ∙ ap (λ x. next_of m x end) w.at ∙ ap (λ k. next_of m (place_after m p k) end) i_is)
     ∙ ap (λ k. Ok (resting (next_of m (place_after m p (m.owed p)) end), k + 1)) en in

@@ -1,5 +1,5 @@
 -- The run that a list of calls makes, by what each call comes to.
-use Rattle.std.specs.Prelude.{◌≡◌, ℕ, ◌+◌, List, [], ◌∷◌, map, length, vec_items}
+use Rattle.std.specs.Prelude.{◌≡◌, ℕ, ◌+◌, List, [], ◌∷◌, ◌++◌, map, vec_items}
 use Rattle.rules.specs.Meaning.{Meaning}
 use Rattle.guard.specs.declared.calls.Running.{Running}
 use Rattle.guard.specs.declared.runs.Call.{Call}
@@ -8,7 +8,6 @@ use Rattle.guard.specs.declared.runs.Reply.{Reply}
 use Rattle.guard.specs.declared.runs.Reply.TheVariants.{Begun, Passed, Dropped, Closed, Refused, NoCall}
 use Rattle.guard.specs.declared.runs.Guard.{Guard}
 use Rattle.guard.specs.declared.runs.Guard.TheVariants.{AtRest, InCycle}
-use Rattle.guard.specs.declared.runs.Made.{Made}
 use Rattle.guard.specs.declared.runs.Run.{Run}
 use Rattle.guard.specs.Calls.{resting, running, Acting, refused, dropped, passed, acting, act_guard, act_writes, Closing, barred, closed, closing, close_place, close_writes}
 use Rattle.guard.specs.Runs.{Event, line}
@@ -52,11 +51,25 @@ room Begin = 0
 room (Act a n) = n
 room (Close n) = n
 
--- what making a call gives: the guard, the answer, and the number of letters written
-pub record Makes (s : Step) (x : Made) : Type 0 where
-  pub guard : x.guard ≡ s.guard
-  pub reply : x.reply ≡ s.reply
-  pub count : x.count ≡ length s.wrote
+-- how many letters a call with an answer wrote
+abbrev pub number_written : Reply → ℕ
+number_written Begun = 0
+number_written Passed = 1
+number_written Dropped = 0
+number_written (Closed n) = n
+number_written (Refused e) = 0
+number_written NoCall = 0
+
+-- what making a call gives: the guard and the answer
+pub record Makes (s : Step) (x : Guard × Reply) : Type 0 where
+  pub guard : x.0 ≡ s.guard
+  pub reply : x.1 ≡ s.reply
+
+-- a run after a call: its guard, and the answers and the line with what the call added
+pub record Takes (s : Step) (x y : Run) : Type 0 where
+  pub guard : y.guard ≡ s.guard
+  pub replies : vec_items y.replies ≡ vec_items x.replies ++ s.reply ∷ []
+  pub line_is : vec_items y.line ≡ vec_items x.line ++ s.wrote
 
 -- the events that calls make, and the guard after them
 unfoldable pub events : Meaning → Guard → List Call → List Event

@@ -110,13 +110,14 @@ impl Running {
         if owed >= out.len() {
             return Err((self, Refusal::Short));
         }
+        let (way, rest) = out.split_at_mut(owed);
         let mut place = self.place;
-        for i in 0..owed {
+        for slot in way.iter_mut() {
             let letter = rule.lead_at(place).unwrap_or(END);
-            out[i] = letter;
+            *slot = letter;
             place = rule.following(place, letter).unwrap_or(place);
         }
-        out[owed] = END;
+        rest[0] = END;
         let place = rule.following(place, END).unwrap_or(place);
         Ok((Resting { place }, owed + 1))
     }

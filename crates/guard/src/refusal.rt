@@ -5,15 +5,15 @@ ghost use Rattle.guard.specs.Refusals.{refusal_number};
 #[derive(Clone, Copy, PartialEq, Eq, Debug)]
 pub enum Refusal {
     /// The guard's place is not live under the rule.
-    NotLive,
+    NotLive = 20,
     /// What is offered is no letter.
-    NoLetter,
+    NoLetter = 21,
     /// The end is offered to an act.
-    EndOffered,
+    EndOffered = 22,
     /// The cycle has as many acts as are counted.
-    Full,
+    Full = 23,
     /// The output is too short for what would be written.
-    Short,
+    Short = 24,
 }
 
 impl Refusal {
@@ -21,12 +21,6 @@ impl Refusal {
     pub fn number(self) -> u8
         ensures { result ≡ refusal_number self }
     {
-        match self {
-            Refusal::NotLive => 20,
-            Refusal::NoLetter => 21,
-            Refusal::EndOffered => 22,
-            Refusal::Full => 23,
-            Refusal::Short => 24,
-        }
+        self as u8
     }
 }

@@ -1,8 +1,8 @@
-ghost use Rattle.std.specs.Prelude.{◌≡◌, List, [], ◌∷◌, ◌++◌, length, IfOk, OnOk};
+ghost use Rattle.std.specs.Prelude.{◌≡◌, length, IfOk};
 ghost use Rattle.rules.specs.Meaning.{Lawful};
 ghost use Rattle.rules.specs.Valued.{meaning};
 ghost use Rattle.guard.specs.Calls.{over, acting, closing};
-ghost use Rattle.guard.specs.Histories.{step, act_step, close_step, run_of, room, Makes, Told};
+ghost use Rattle.guard.specs.Histories.{step, act_step, close_step, run_of, room, number_written, Makes, Takes, Told};
 ghost use Rattle.guard.specs.Runs.{Guarded};
 
 use crate::calls::{Answer, Resting, Running, start};
@@ -45,132 +45,99 @@ pub struct Run {
     pub guard: Guard,
 }
 
-/// What one call came to: the guard after it, its answer, and how many letters it wrote.
-struct Made {
-    guard: Guard,
-    reply: Reply,
-    count: usize,
+impl Call {
+    /// The length of the call's output.
+    fn room(self) -> usize
+        ensures { result ≡ room self }
+    {
+        match self {
+            Call::Begin => 0,
+            Call::Act(_, room) | Call::Close(room) => room,
+        }
+    }
 }
 
-/// The length of a call's output.
-fn room_of(call: Call) -> usize
-    ensures { result ≡ room call }
-{
-    match call {
-        Call::Begin => 0,
-        Call::Act(_, room) => room,
-        Call::Close(room) => room,
+impl Reply {
+    /// How many letters a call with this answer wrote.
+    fn written(self) -> usize
+        ensures { result ≡ number_written self }
+    {
+        match self {
+            Reply::Passed => 1,
+            Reply::Closed(count) => count,
+            Reply::Begun | Reply::Dropped | Reply::Refused(_) | Reply::NoCall => 0,
+        }
     }
 }
 
 /// Offers a letter to a running guard.
-fn make_act<R: Rule>(rule: &R, mut running: Running, letter: Letter, out: &mut [Letter]) -> Made
+fn make_act<R: Rule>(
+    rule: &R,
+    mut running: Running,
+    letter: Letter,
+    out: &mut [Letter],
+) -> (Guard, Reply)
     ensures made { Makes (act_step (acting (meaning R.Rule rule.now) running letter (length out.old)) running letter) result }
     ensures wrote { out.new ≡ over (act_step (acting (meaning R.Rule rule.now) running letter (length out.old)) running letter).wrote out.old }
 {
-    let answer = running.act(rule, letter, out);
-    let guard = Guard::InCycle(running);
-    match answer {
-        Ok(Answer::Passed) => Made {
-            guard,
-            reply: Reply::Passed,
-            count: 1,
-        },
-        Ok(Answer::Dropped) => Made {
-            guard,
-            reply: Reply::Dropped,
-            count: 0,
-        },
-        Err(refusal) => Made {
-            guard,
-            reply: Reply::Refused(refusal),
-            count: 0,
-        },
-    }
+    let reply = match running.act(rule, letter, out) {
+        Ok(Answer::Passed) => Reply::Passed,
+        Ok(Answer::Dropped) => Reply::Dropped,
+        Err(refusal) => Reply::Refused(refusal),
+    };
+    (Guard::InCycle(running), reply)
 }
 
 /// Closes a running guard's cycle.
-fn make_close<R: Rule>(rule: &R, running: Running, out: &mut [Letter]) -> Made
+fn make_close<R: Rule>(rule: &R, running: Running, out: &mut [Letter]) -> (Guard, Reply)
     ensures made { Makes (close_step (meaning R.Rule rule.now) (closing (meaning R.Rule rule.now) running (length out.old)) running) result }
     ensures wrote { out.new ≡ over (close_step (meaning R.Rule rule.now) (closing (meaning R.Rule rule.now) running (length out.old)) running).wrote out.old }
 {
     match running.close(rule, out) {
-        Ok((resting, count)) => Made {
-            guard: Guard::AtRest(resting),
-            reply: Reply::Closed(count),
-            count,
-        },
-        Err((running, refusal)) => Made {
-            guard: Guard::InCycle(running),
-            reply: Reply::Refused(refusal),
-            count: 0,
-        },
+        Ok((resting, count)) => (Guard::AtRest(resting), Reply::Closed(count)),
+        Err((running, refusal)) => (Guard::InCycle(running), Reply::Refused(refusal)),
     }
 }
 
-/// Makes one call with an output of its length.
-fn make<R: Rule>(rule: &R, guard: Guard, call: Call, out: &mut [Letter]) -> Made
-    requires { length out.old ≡ room call }
-    ensures made { Makes (step (meaning R.Rule rule.now) guard call) result }
-    ensures wrote { out.new ≡ over (step (meaning R.Rule rule.now) guard call).wrote out.old }
-{
-    match (guard, call) {
-        (Guard::AtRest(resting), Call::Begin) => {
-            Made {
-                guard: Guard::InCycle(resting.begin()),
-                reply: Reply::Begun,
-                count: 0,
+impl Guard {
+    /// Makes one call with an output of its length, and gives the guard after it and its answer.
+    fn make<R: Rule>(self, rule: &R, call: Call, out: &mut [Letter]) -> (Guard, Reply)
+        requires { length out.old ≡ room call }
+        ensures made { Makes (step (meaning R.Rule rule.now) self call) result }
+        ensures wrote { out.new ≡ over (step (meaning R.Rule rule.now) self call).wrote out.old }
+    {
+        match (self, call) {
+            (Guard::AtRest(resting), Call::Begin) => {
+                (Guard::InCycle(resting.begin()), Reply::Begun)
             }
+            (Guard::InCycle(running), Call::Act(letter, _)) => make_act(rule, running, letter, out),
+            (Guard::InCycle(running), Call::Close(_)) => make_close(rule, running, out),
+            (guard, _) => (guard, Reply::NoCall),
         }
-        (Guard::InCycle(running), Call::Act(letter, _)) => make_act(rule, running, letter, out),
-        (Guard::InCycle(running), Call::Close(_)) => make_close(rule, running, out),
-        (guard, _) => Made {
-            guard,
-            reply: Reply::NoCall,
-            count: 0,
-        },
     }
 }
 
-/// Makes one call with an output of its length, and adds the letters that it wrote to the line.
-fn write<R: Rule>(
-    rule: &R,
-    guard: Guard,
-    call: Call,
-    out: &mut [Letter],
-    line: &mut Vec<Letter>,
-) -> Result<(Guard, Reply), AllocError>
-    requires { length out.old ≡ room call }
-    ensures guard { IfOk result (λ x. x.0 ≡ (step (meaning R.Rule rule.now) guard call).guard) }
-    ensures reply { IfOk result (λ x. x.1 ≡ (step (meaning R.Rule rule.now) guard call).reply) }
-    ensures line { OnOk result (line.new.items ≡ line.old.items ++ (step (meaning R.Rule rule.now) guard call).wrote) }
-{
-    let Made {
-        guard,
-        reply,
-        count,
-    } = make(rule, guard, call, out);
-    line.extend_from_slice(&out[0..count])?;
-    Ok((guard, reply))
-}
-
-/// Makes one call, and adds its answer and the letters that it wrote.
-fn take<R: Rule>(
-    heap: Global,
-    rule: &R,
-    guard: Guard,
-    call: Call,
-    replies: &mut Vec<Reply>,
-    line: &mut Vec<Letter>,
-) -> Result<Guard, AllocError>
-    ensures guard { IfOk result (λ g. g ≡ (step (meaning R.Rule rule.now) guard call).guard) }
-    ensures replies { OnOk result (replies.new.items ≡ replies.old.items ++ (step (meaning R.Rule rule.now) guard call).reply ∷ []) }
-    ensures line { OnOk result (line.new.items ≡ line.old.items ++ (step (meaning R.Rule rule.now) guard call).wrote) }
-{
-    let mut out = vec![in heap; 0; room_of(call)]?;
-    let (guard, reply) = write(rule, guard, call, out.as_mut_slice(), line)?;
-    replies.push(reply)?;
-    Ok(guard)
+impl Run {
+    /// Makes one call with an output of its length, and adds its answer and the letters that it wrote.
+    fn take<R: Rule>(self, heap: Global, rule: &R, call: Call) -> Result<Run, AllocError>
+        ensures { IfOk result (Takes (step (meaning R.Rule rule.now) self.guard call) self) }
+    {
+        let Run {
+            mut replies,
+            mut line,
+            guard,
+        } = self;
+        let mut room = vec![in heap; 0; call.room()]?;
+        let out = room.as_mut_slice();
+        let (guard, reply) = guard.make(rule, call, out);
+        line.extend_from_slice(&out[..reply.written()])?;
+        replies.push(reply)?;
+        Ok(Run {
+            replies,
+            line,
+            guard,
+        })
+    }
 }
 
 /// Starts a guard and makes the calls, each with an output of its own length; fails only for want of memory.
@@ -178,15 +145,13 @@ pub fn run_calls<R: Rule>(heap: Global, rule: &R, calls: &[Call]) -> Result<Run,
     ensures told { IfOk result (Told (meaning R.Rule rule.now) calls.now) }
     ensures guarded { Lawful (meaning R.Rule rule.now) → Guarded (meaning R.Rule rule.now) (run_of (meaning R.Rule rule.now)) }
 {
-    let mut guard = Guard::AtRest(start(rule));
-    let mut replies = Vec::new(heap);
-    let mut line = Vec::new(heap);
+    let mut run = Run {
+        replies: Vec::new(heap),
+        line: Vec::new(heap),
+        guard: Guard::AtRest(start(rule)),
+    };
     for call in calls {
-        guard = take(heap, rule, guard, *call, &mut replies, &mut line)?;
+        run = run.take(heap, rule, *call)?;
     }
-    Ok(Run {
-        replies,
-        line,
-        guard,
-    })
+    Ok(run)
 }

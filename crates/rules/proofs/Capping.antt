@@ -5,7 +5,7 @@ use Rattle.std.proofs.lemmas.Bool.{leb-true, le-leb, ltb-true, lt-ltb, eqb-true,
 use Rattle.letters.specs.Letters.{end, insertable}
 use Rattle.rules.specs.Meaning.{Meaning, Dead, Leads, Meant, Laws, Lawful, most_places}
 use Rattle.rules.specs.Capped.{cap_live, cap_act, cap_end, cap_next, capped_with, capped, Same}
-use Rattle.rules.proofs.Follows.{none_some}
+use Rattle.rules.proofs.Follows.{none_some, not_end}
 
 pub some_cond : (b : Bool) (x : Option ℕ) (r : ℕ) → cond b x None ≡ Some r → (b ≡ true) × (x ≡ Some r)
 some_cond true x r h = (refl, h)
@@ -45,9 +45,6 @@ none_next : (b ends : Bool) (place : ℕ → ℕ → ℕ) (m : Meaning) (k l : �
 none_next true true place m k l o e = ap (cap_end place k) e
 none_next true false place m k l o e = ap (cap_act place m l) e
 none_next false ends place m k l o e = refl
-
-not_end : (a : ℕ) → insertable a ≡ true → a ≡ end → ⊥
-not_end a h e = let z : true ≡ false = sym h ∙ ap insertable e in let y : ◌≡◌ {A = ℕ} 0 1 = cc in omega arith
 
 -- a step of the cap, in the words of the rule below: from q with l left to n with l' left
 record Step (place : ℕ → ℕ → ℕ) (m : Meaning) (k q l a r n l' : ℕ) : Type 0 where

@@ -1,12 +1,16 @@
 -- The place that a list leads to: parts of lists, single letters, and what the laws say of it.
 use Rattle.std.proofs.Common.{◌≡◌, ℕ, true, List, [], ◌∷◌, ◌++◌, is_some as option_is_some, Some, None, Option, sym, refl, ap, ◌∙◌, arith}
-use Rattle.std.proofs.lemmas.Bool.{eq-eqb, eqb-true}
-use Rattle.letters.specs.Letters.{end}
+use Rattle.std.proofs.lemmas.Bool.{eq-eqb, eqb-true, false≢true}
+use Rattle.letters.specs.Letters.{end, insertable}
 use Rattle.rules.specs.Meaning.{Meaning, Laws}
 use Rattle.rules.specs.Lists.{and_then, follow_by, follow, Admitted}
 
 pub none_some : {T : Type 0} {x : T} → None ≡ Some x → ⊥
 none_some h = let z : ◌≡◌ {A = ℕ} 0 1 = cc in omega arith
+
+-- the end is not insertable
+pub not_end : (a : ℕ) → insertable a ≡ true → a ≡ end → ⊥
+not_end a can e = false≢true (sym (ap insertable e) ∙ can)
 
 pub is_some : (o : Option ℕ) → option_is_some o ≡ true → (q : ℕ) × (o ≡ Some q)
 is_some None h = let z : ◌≡◌ {A = ℕ} 0 1 = cc in absurd (omega arith)

@@ -1,11 +1,13 @@
 -- The tests of the rows pass exactly where the table is lawful.
-use Rattle.std.proofs.Common.{◌≡◌, ℕ, ◌+◌, ◌<◌, ◌≤◌, Bool, true, false, cond, not, ◌&&◌, ◌||◌, eqb, ltb, leb, List, length, get_or, is_some as option_is_some, Some, None, Option, sym, refl, ap, ◌∙◌, ⊎_elim, arith}
-use Rattle.std.proofs.lemmas.Bool.{both_ways, leb-true, le-leb, ltb-true, lt-ltb, eqb-true, eqb-false, eq-eqb, ne_eqb, and_parts, and_from, or_cases, or_left, or_right, not-true, not_from_false, cases_Bool, false≢true, cond-true, cond-false}
+use Rattle.std.proofs.Common.{◌≡◌, ℕ, ◌+◌, ◌<◌, ◌≤◌, Bool, true, false, cond, not, ◌&&◌, ◌||◌, eqb, ltb, leb, List, length, get_or, is_some as option_is_some, Some, None, Option, Bor, sym, refl, ap, ◌∙◌, subst, ⊎_elim, arith}
+use Rattle.std.specs.Slice.{IsItemAt}
+use Rattle.std.specs.Option.{option_copied}
+use Rattle.std.proofs.lemmas.Bool.{both_ways, leb-true, le-leb, ltb-true, lt-ltb, le-ltb, eqb-true, eqb-false, eq-eqb, ne_eqb, and_parts, and_from, or_cases, or_left, or_right, not-true, not_from_false, cases_Bool, cases_lt, false≢true, cond-true, cond-false}
 use Rattle.letters.specs.Letters.{letter, end, insertable}
 use Rattle.letters.specs.Alphabets.{position, each_a_letter, ascending_from}
 use Rattle.rules.specs.Lists.{and_then}
 use Rattle.rules.specs.Meaning.{Meaning, Dead, Leads, Laws, Lawful, most_places, most_span}
-use Rattle.rules.specs.Tabled.{entry, cell, row_after, row_owed, row_lead, held_letter, tabled_with, tabled}
+use Rattle.rules.specs.Tabled.{entry, cell, cell_at, row_after, row_owed, row_lead, held_letter, tabled_with, tabled}
 use Rattle.rules.specs.Rows.{keeps_after, one_less, leads_on, keeps_end, keeps_cell, keeps_cells, keeps_row, all_below}
 use Rattle.rules.proofs.Below.{all_decides, largest_over}
 use Rattle.rules.proofs.Capping.{some_cond}
@@ -67,7 +69,7 @@ none_of : (o : Option ℕ) → option_is_some o ≡ false → o ≡ None
 none_of None h = refl
 none_of (Some q) h = absurd (false≢true (sym h))
 
-start : (j : ℕ) → 0 + j ≡ j
+pub start : (j : ℕ) → 0 + j ≡ j
 start j = omega arith
 
 -- a lead is given where owed is above 0
@@ -93,18 +95,19 @@ module _ (letters memory : List ℕ) (rows most : ℕ) where
       let same : s.0 ≡ u.0 = omega (arith, e) in
       (u.0, u.2, u.3, ap (cell letters memory p) (sym same) ∙ s.2)
 
-  module _ (each : each_a_letter letters ≡ true) (keeps : (p : ℕ) → p < rows → keeps_row M letters memory p ≡ true) where
-    row_of : (p : ℕ) → M.live p ≡ true → (leb (M.span p) most_span ≡ true) × (keeps_end M p ≡ true) × (keeps_cells M letters memory p ≡ true)
+  module _ (each : each_a_letter letters ≡ true) (keeps : (p : ℕ) → p < rows → keeps_row M letters memory rows p ≡ true) where
+    row_of : (p : ℕ) → M.live p ≡ true → (leb (M.span p) most_span ≡ true) × (keeps_end M p ≡ true) × (keeps_cells M letters memory rows p ≡ true)
     row_of p live =
         let t = and_parts (leb (M.span p) most_span) _ (keeps p (ltb-true p rows live)) in
-        let s = and_parts (keeps_end M p) (keeps_cells M letters memory p) t.1 in
+        let s = and_parts (keeps_end M p) (keeps_cells M letters memory rows p) t.1 in
         (t.0, s.0, s.1)
 
     after : (p a q : ℕ) → M.live p ≡ true → M.next p a ≡ Some q → keeps_after M p a (Some q) ≡ true
     after p a q live e =
         let c = column_of p a q e in
-        let test = (all_decides (keeps_cell M letters memory p) (length letters)).0 (row_of p live).2 c.0 c.1 in
-        ap (λ x. keeps_after M p x (Some q)) (sym c.2) ∙ ap (keeps_after M p (get_or letters c.0 0)) (sym c.3) ∙ test
+        let test = (all_decides (keeps_cell M letters memory rows p) (length letters)).0 (row_of p live).2 c.0 c.1 in
+        let names : cell_at letters memory rows p c.0 ≡ Some q = cond-true _ _ _ live ∙ c.3 in
+        ap (λ x. keeps_after M p x (Some q)) (sym c.2) ∙ ap (keeps_after M p (get_or letters c.0 0)) (sym names) ∙ test
 
     after_parts : (p a q : ℕ) → M.live p ≡ true → M.next p a ≡ Some q
         → (M.live q ≡ true) × ((eqb a end || ltb (M.span q) (M.span p)) ≡ true) × ((not (insertable a) || leb (M.owed p) (M.owed q + 1)) ≡ true)
@@ -175,20 +178,20 @@ module _ (letters memory : List ℕ) (rows most : ℕ) where
       };
     }
 
-  complete : ascending_from 0 letters ≡ true → Lawful M → (p : ℕ) → p < rows → keeps_row M letters memory p ≡ true
+  complete : ascending_from 0 letters ≡ true → Lawful M → (p : ℕ) → p < rows → keeps_row M letters memory rows p ≡ true
   complete ascends lawful p inside =
       let laws = lawful.laws in
       let live : M.live p ≡ true = lt-ltb p rows inside in
       and_from (leb (M.span p) most_span) _ (le-leb _ _ (laws.bounded p live))
-      (and_from (keeps_end M p) (keeps_cells M letters memory p)
+      (and_from (keeps_end M p) (keeps_cells M letters memory rows p)
       (end_told (option_is_some (M.next p end)) (M.owed p) (leads_on M p (M.lead p)) (laws.ends p live) (λ pos. let w = laws.leads p live pos in leads_told M p w.0 w.1 w.2))
-      ((all_decides (keeps_cell M letters memory p) (length letters)).1
-      (λ j below. after_told M laws p (get_or letters j 0) (cell letters memory p j) live
-      (cond-true _ _ _ live ∙ ap (λ o. and_then o (cell letters memory p)) (position_of letters 0 0 j ascends below ∙ ap Some (start j))))))
+      ((all_decides (keeps_cell M letters memory rows p) (length letters)).1
+      (λ j below. after_told M laws p (get_or letters j 0) (cell_at letters memory rows p j) live
+      (ap (λ o. cond (ltb p rows) (and_then o (cell letters memory p)) None) (position_of letters 0 0 j ascends below ∙ ap Some (start j))))))
 
 -- the tests of all rows, whatever `most` is said to be
 abbrev pub tests : List ℕ → List ℕ → ℕ → ℕ → Bool
-tests letters memory rows most = all_below (keeps_row (tabled_with letters memory rows most) letters memory) rows
+tests letters memory rows most = all_below (keeps_row (tabled_with letters memory rows most) letters memory rows) rows
 
 -- rows that pass the tests, whose answer is r, are lawful with their largest owed
 pub rows_lawful : (letters memory : List ℕ) (rows most : ℕ) (r : Bool) → each_a_letter letters ≡ true → 0 < rows → rows ≤ most_places
@@ -201,3 +204,21 @@ pub rows_unlawful : (letters memory : List ℕ) (rows most : ℕ) (r : Bool) →
     → r ≡ tests letters memory rows most → r ≡ false → Lawful (tabled letters memory rows) → ⊥
 rows_unlawful letters memory rows most r ascends e t lawful =
     both_ways (tests letters memory rows most) (sym e ∙ t) ((all_decides _ rows).1 (complete letters memory rows _ ascends lawful))
+
+-- the number at an index of a memory, by `get` and `copied`
+got_in : (memory : List ℕ) (i : ℕ) (o : Option (Bor ℕ)) → i < length memory → IsItemAt memory i o → option_copied o ≡ Some (get_or memory i 0)
+got_in memory i None below h = absurd (omega (arith, h.3))
+got_in memory i (Some x) below h = ap Some (h.3.1 0)
+
+got_past : (memory : List ℕ) (i : ℕ) (o : Option (Bor ℕ)) → length memory ≤ i → IsItemAt memory i o → option_copied o ≡ None
+got_past memory i None past h = refl
+got_past memory i (Some x) past h = absurd (omega (arith, h.3.0))
+
+-- the same at an index j that is i, where i lies in the memory
+pub got : (memory : List ℕ) (i j : ℕ) (o : Option (Bor ℕ)) → (i < length memory → i ≡ j) → (length memory ≤ i → length memory ≤ j) → IsItemAt memory j o
+    → option_copied o ≡ cond (ltb i (length memory)) (Some (get_or memory i 0)) None
+got memory i j o same past h =
+    ⊎_elim
+    (λ below. got_in memory i o below (subst (λ k. IsItemAt memory k o) (sym (same below)) h) ∙ sym (cond-true _ _ _ (lt-ltb _ _ below)))
+    (λ beyond. got_past memory j o (past beyond) h ∙ sym (cond-false _ _ _ (le-ltb _ _ beyond)))
+    (cases_lt i (length memory))

@@ -2,7 +2,7 @@
 use Rattle.std.specs.Prelude.{ℕ, zero, suc, ◌+◌, Bool, true, false, cond, not, ◌&&◌, ◌||◌, List, length, is_some, Some, None, Option, ◌==◌, nat_le, nat_lt, slice_index}
 use Rattle.letters.specs.Letters.{end, insertable}
 use Rattle.rules.specs.Meaning.{Meaning, most_span}
-use Rattle.rules.specs.Tabled.{cell}
+use Rattle.rules.specs.Tabled.{cell_at}
 
 -- each of f 0 to f (n - 1) passes
 unfoldable pub all_below : (ℕ → Bool) → ℕ → Bool
@@ -30,11 +30,11 @@ leads_on m p (Some a) = insertable a && one_less m p (m.next p a)
 abbrev pub keeps_end : Meaning → ℕ → Bool
 keeps_end m p = cond (is_some (m.next p end)) (m.owed p == 0) (nat_lt 0 (m.owed p) && leads_on m p (m.lead p))
 
-abbrev pub keeps_cell : Meaning → List ℕ → List ℕ → ℕ → ℕ → Bool
-keeps_cell m letters memory p column = keeps_after m p (slice_index letters column) (cell letters memory p column)
+abbrev pub keeps_cell : Meaning → List ℕ → List ℕ → ℕ → ℕ → ℕ → Bool
+keeps_cell m letters memory rows p column = keeps_after m p (slice_index letters column) (cell_at letters memory rows p column)
 
-abbrev pub keeps_cells : Meaning → List ℕ → List ℕ → ℕ → Bool
-keeps_cells m letters memory p = all_below (keeps_cell m letters memory p) (length letters)
+abbrev pub keeps_cells : Meaning → List ℕ → List ℕ → ℕ → ℕ → Bool
+keeps_cells m letters memory rows p = all_below (keeps_cell m letters memory rows p) (length letters)
 
-abbrev pub keeps_row : Meaning → List ℕ → List ℕ → ℕ → Bool
-keeps_row m letters memory p = nat_le (m.span p) most_span && (keeps_end m p && keeps_cells m letters memory p)
+abbrev pub keeps_row : Meaning → List ℕ → List ℕ → ℕ → ℕ → Bool
+keeps_row m letters memory rows p = nat_le (m.span p) most_span && (keeps_end m p && keeps_cells m letters memory rows p)

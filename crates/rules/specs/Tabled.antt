@@ -31,6 +31,13 @@ row_named n = cond (n == no_row) None (Some n)
 abbrev pub cell : List ℕ → List ℕ → ℕ → ℕ → Option ℕ
 cell letters memory row column = and_then (entry letters memory row column) row_named
 
+-- the same of a live place, which is one of the first rows
+abbrev pub entry_at : List ℕ → List ℕ → ℕ → ℕ → ℕ → Option ℕ
+entry_at letters memory rows place column = cond (nat_lt place rows) (entry letters memory place column) None
+
+abbrev pub cell_at : List ℕ → List ℕ → ℕ → ℕ → ℕ → Option ℕ
+cell_at letters memory rows place column = cond (nat_lt place rows) (cell letters memory place column) None
+
 -- the row that follows a row after a letter
 abbrev pub row_after : List ℕ → List ℕ → ℕ → ℕ → Option ℕ
 row_after letters memory row a = and_then (position letters a) (cell letters memory row)

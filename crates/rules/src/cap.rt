@@ -1,4 +1,5 @@
-ghost use Rattle.std.specs.Prelude.{◌≡◌, ◌+◌, ◌*◌, ◌/◌, ◌%◌};
+ghost use Rattle.std.specs.Prelude.{◌≡◌, ◌+◌, ◌*◌, ◌/◌, ◌%◌, cond, Some, None};
+ghost use Rattle.rules.specs.Capped.{cap_live};
 ghost use Rattle.rules.specs.Meaning.{Lawful};
 ghost use Rattle.rules.specs.Valued.{meaning};
 ghost use Rattle.rules.specs.Caps.{cut, cap_rule, cap_made, default_cap, CapLawful, CapPlain};
@@ -22,26 +23,35 @@ impl<R> Cap<R> {
     fn place_below(&self, place: u32) -> u32
         ensures { result ≡ place / (self.now.k + 1) }
     {
-        place / (self.k as u32 + 1)
+        place / (u32::from(self.k) + 1)
     }
 
     /// The letters left at a place.
     fn left_at(&self, place: u32) -> u32
         ensures { result ≡ place % (self.now.k + 1) }
     {
-        place % (self.k as u32 + 1)
+        place % (u32::from(self.k) + 1)
     }
 
     /// The place of a place below with some letters left, or the largest number where that is larger.
     fn place_of(&self, below: u32, left: u32) -> u32
         ensures { result ≡ cut (below * (self.now.k + 1) + left) }
     {
-        let place = below as u64 * (self.k as u64 + 1) + left as u64;
-        place.min(u32::MAX as u64) as u32
+        let place = u64::from(below) * (u64::from(self.k) + 1) + u64::from(left);
+        u32::try_from(place).unwrap_or(u32::MAX)
     }
 }
 
 impl<R: Rule> Cap<R> {
+    /// The place below that a live place stands for.
+    fn live_below(&self, place: u32) -> Option<u32>
+        ensures { result ≡ cond (cap_live (meaning R.Rule self.now.below) (place / (self.now.k + 1)) (place % (self.now.k + 1))) (Some (place / (self.now.k + 1))) None }
+    {
+        let below = self.place_below(place);
+        let fits = self.below.is_live(below) && self.below.owed_at(below) <= self.left_at(place);
+        fits.then_some(below)
+    }
+
     /// The cap of `k` over a rule; a refusal drops the rule.
     pub fn new(below: R, k: u32) -> Result<Cap<R>, RuleFault>
     where
@@ -53,9 +63,10 @@ impl<R: Rule> Cap<R> {
         if k > MOST_NUMBER || k < below.most_owed() {
             return Err(RuleFault::Number);
         }
-        if below.place_count() as u64 * (k as u64 + 1) > MOST_PLACES {
+        if u64::from(below.place_count()) * (u64::from(k) + 1) > MOST_PLACES {
             return Err(RuleFault::Places);
         }
+        // A cast, since the bound is `MOST_NUMBER` and not what a byte happens to hold.
         Ok(Cap { below, k: k as u8 })
     }
 
@@ -93,7 +104,7 @@ impl<R: Rule> Rule for Cap<R> {
     }
 
     fn start_place(&self) -> u32 {
-        self.place_of(self.below.start_place(), self.k as u32)
+        self.place_of(self.below.start_place(), u32::from(self.k))
     }
 
     fn most_owed(&self) -> u32 {
@@ -101,48 +112,33 @@ impl<R: Rule> Rule for Cap<R> {
     }
 
     fn is_live(&self, place: u32) -> bool {
-        let below = self.place_below(place);
-        self.below.is_live(below) && self.below.owed_at(below) <= self.left_at(place)
+        self.live_below(place).is_some()
     }
 
     fn following(&self, place: u32, letter: Letter) -> Option<u32> {
-        if !self.is_live(place) {
-            return None;
-        }
-        let left = self.left_at(place);
-        let after = self.below.following(self.place_below(place), letter)?;
+        let after = self.below.following(self.live_below(place)?, letter)?;
         if letter == END {
-            Some(self.place_of(after, self.k as u32))
-        } else if left > 0 && self.below.owed_at(after) <= left - 1 {
-            Some(self.place_of(after, left - 1))
-        } else {
-            None
+            return Some(self.place_of(after, u32::from(self.k)));
         }
+        let left = self.left_at(place).checked_sub(1)?;
+        (self.below.owed_at(after) <= left).then_some(self.place_of(after, left))
     }
 
     fn owed_at(&self, place: u32) -> u32 {
-        if self.is_live(place) {
-            self.below.owed_at(self.place_below(place))
-        } else {
-            0
+        match self.live_below(place) {
+            Some(below) => self.below.owed_at(below),
+            None => 0,
         }
     }
 
     fn span_at(&self, place: u32) -> u32 {
-        if self.is_live(place) {
-            self.below
-                .span_at(self.place_below(place))
-                .min(self.left_at(place))
-        } else {
-            0
+        match self.live_below(place) {
+            Some(below) => self.below.span_at(below).min(self.left_at(place)),
+            None => 0,
         }
     }
 
     fn lead_at(&self, place: u32) -> Option<Letter> {
-        if self.is_live(place) {
-            self.below.lead_at(self.place_below(place))
-        } else {
-            None
-        }
+        self.below.lead_at(self.live_below(place)?)
     }
 }

@@ -24,6 +24,7 @@ impl<'a> Count<'a> {
         }
         Ok(Count {
             letters: alphabet.letters(),
+            // A cast, since the bound is `MOST_NUMBER` and not what a byte happens to hold.
             k: k as u8,
         })
     }
@@ -47,11 +48,11 @@ impl<'a> Rule for Count<'a> {
     ghost lead = { count_rule.lead };
 
     fn place_count(&self) -> u32 {
-        self.k as u32 + 1
+        u32::from(self.k) + 1
     }
 
     fn start_place(&self) -> u32 {
-        self.k as u32
+        u32::from(self.k)
     }
 
     fn most_owed(&self) -> u32 {
@@ -59,19 +60,20 @@ impl<'a> Rule for Count<'a> {
     }
 
     fn is_live(&self, place: u32) -> bool {
-        place <= self.k as u32
+        place <= u32::from(self.k)
     }
 
     fn following(&self, place: u32, letter: Letter) -> Option<u32> {
-        if place > self.k as u32 {
-            None
-        } else if letter == END {
-            Some(self.k as u32)
-        } else if place > 0 && contains(self.letters, letter) {
-            Some(place - 1)
-        } else {
-            None
+        if !self.is_live(place) {
+            return None;
         }
+        if letter == END {
+            return Some(u32::from(self.k));
+        }
+        if !contains(self.letters, letter) {
+            return None;
+        }
+        place.checked_sub(1)
     }
 
     fn owed_at(&self, _place: u32) -> u32 {

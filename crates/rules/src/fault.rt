@@ -11,11 +11,11 @@ pub const MOST_PLACES: u64 = 1_048_576;
 #[derive(Clone, Copy, PartialEq, Eq, Debug)]
 pub enum RuleFault {
     /// A number over `MOST_NUMBER`, or a cap under the most that is owed.
-    Number,
+    Number = 16,
     /// More than `MOST_PLACES` places.
-    Places,
+    Places = 17,
     /// No rows, rows past the memory, or rows that break a law.
-    Rows,
+    Rows = 18,
 }
 
 impl RuleFault {
@@ -23,10 +23,6 @@ impl RuleFault {
     pub fn number(self) -> u8
         ensures { result ≡ rule_number self }
     {
-        match self {
-            RuleFault::Number => 16,
-            RuleFault::Places => 17,
-            RuleFault::Rows => 18,
-        }
+        self as u8
     }
 }

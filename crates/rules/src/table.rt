@@ -1,7 +1,7 @@
-ghost use Rattle.std.specs.Prelude.{◌≡◌};
+ghost use Rattle.std.specs.Prelude.{◌≡◌, cond, Some, nat_lt};
 ghost use Rattle.letters.specs.Declarations.{letters_of};
 ghost use Rattle.rules.specs.Valued.{meaning};
-ghost use Rattle.rules.specs.Tabled.{entry, amount, cell, row_owed, largest};
+ghost use Rattle.rules.specs.Tabled.{entry_at, cell_at, amount, row_owed, largest};
 ghost use Rattle.rules.specs.Rows.{all_below, keeps_after, one_less, leads_on, keeps_end, keeps_cells, keeps_row};
 ghost use Rattle.rules.specs.Tables.{table_rule, TableMade, TableLawful};
 
@@ -53,102 +53,86 @@ impl<'a> Table<'a> {
             return Err(RuleFault::Rows);
         }
         Ok(Table {
-            letters,
-            memory,
-            rows,
             most: table.largest_owed(),
+            ..table
         })
     }
 
-    /// The number in a column of a row, or none where that lies past the memory.
-    fn entry(&self, row: u32, column: usize) -> Option<u16>
-        ensures { result ≡ entry self.now.letters.now self.now.memory.now row column }
+    /// The number in a column of a live place's row, or none where that lies past the memory.
+    fn entry(&self, place: u32, column: usize) -> Option<u16>
+        ensures { result ≡ entry_at self.now.letters.now self.now.memory.now self.now.rows place column }
     {
+        if !self.is_live(place) {
+            return None;
+        }
         let width = self.letters.len() + LAST_COLUMNS;
-        let index = row as u128 * width as u128 + column as u128;
-        if index < self.memory.len() as u128 {
-            Some(self.memory[index as usize])
-        } else {
-            None
-        }
+        let index = (place as usize)
+            .saturating_mul(width)
+            .saturating_add(column);
+        self.memory.get(index).copied()
     }
 
-    /// The number in a column of a row, 0 past the memory.
-    fn amount(&self, row: u32, column: usize) -> u32
-        ensures { result ≡ amount self.now.letters.now self.now.memory.now row column }
+    /// The number in a column of a live place's row, else 0.
+    fn amount(&self, place: u32, column: usize) -> u32
+        ensures { result ≡ cond (nat_lt place self.now.rows) (amount self.now.letters.now self.now.memory.now place column) 0 }
     {
-        self.entry(row, column).unwrap_or(0) as u32
+        self.entry(place, column).map_or(0, u32::from)
     }
 
-    /// The row that a cell names.
-    fn cell(&self, row: u32, column: usize) -> Option<u32>
-        ensures { result ≡ cell self.now.letters.now self.now.memory.now row column }
+    /// The place that a cell of a live place's row names.
+    fn cell(&self, place: u32, column: usize) -> Option<u32>
+        ensures { result ≡ cell_at self.now.letters.now self.now.memory.now self.now.rows place column }
     {
-        match self.entry(row, column) {
-            Some(named) if named != NO_ROW => Some(named as u32),
-            _ => None,
-        }
+        self.entry(place, column)
+            .filter(|named| *named != NO_ROW)
+            .map(u32::from)
     }
 
-    /// What is owed at a row.
-    fn owed(&self, row: u32) -> u32
-        ensures { result ≡ row_owed self.now.letters.now self.now.memory.now row }
-    {
-        self.amount(row, self.letters.len())
-    }
-
-    /// The largest owed of the rows.
+    /// The largest owed of the places.
     fn largest_owed(&self) -> u32
         ensures { result ≡ largest (row_owed self.now.letters.now self.now.memory.now) self.now.rows }
     {
-        let mut most = 0;
-        for row in 0..self.rows {
-            most = self.owed(row).max(most);
-        }
-        most
+        (0..self.rows)
+            .map(|place| self.owed_at(place))
+            .max()
+            .unwrap_or(0)
     }
 
     /// Whether what follows a place after the letter of a column keeps the laws.
     fn keeps_cell(&self, place: u32, letter: Letter, column: usize) -> bool
-        ensures { result ≡ keeps_after (meaning table_rule self.now) place letter (cell self.now.letters.now self.now.memory.now place column) }
+        ensures { result ≡ keeps_after (meaning table_rule self.now) place letter (cell_at self.now.letters.now self.now.memory.now self.now.rows place column) }
     {
+        // A `match`, since of a closure that borrows the table `is_none_or` tells no result.
         match self.cell(place, column) {
             None => true,
             Some(after) => {
                 self.is_live(after)
                     && (letter == END || self.span_at(after) < self.span_at(place))
                     && (!may_insert(letter)
-                        || self.owed_at(place) as u64 <= self.owed_at(after) as u64 + 1)
+                        || self.owed_at(place).saturating_sub(1) <= self.owed_at(after))
             }
         }
     }
 
     /// Whether the letters of the alphabet keep the laws at a place.
     fn keeps_cells(&self, place: u32) -> bool
-        ensures { result ≡ keeps_cells (meaning table_rule self.now) self.now.letters.now self.now.memory.now place }
+        ensures { result ≡ keeps_cells (meaning table_rule self.now) self.now.letters.now self.now.memory.now self.now.rows place }
     {
-        for (column, letter) in self.letters.iter().enumerate() {
-            if !self.keeps_cell(place, *letter, column) {
-                return false;
-            }
-        }
-        true
+        self.letters
+            .iter()
+            .enumerate()
+            .all(|(column, letter)| self.keeps_cell(place, *letter, column))
     }
 
-    /// Whether a lead is insertable and brings the end one letter nearer.
-    fn leads_on(&self, place: u32, lead: Option<Letter>) -> bool
-        ensures { result ≡ leads_on (meaning table_rule self.now) place lead }
+    /// Whether a letter is insertable and brings the end one letter nearer.
+    fn leads_on(&self, place: u32, letter: Letter) -> bool
+        ensures { result ≡ leads_on (meaning table_rule self.now) place (Some letter) }
     {
-        let Some(letter) = lead else {
-            return false;
-        };
-        if !may_insert(letter) {
-            return false;
-        }
-        match self.following(place, letter) {
-            Some(after) => self.owed_at(after) as u64 + 1 == self.owed_at(place) as u64,
-            None => false,
-        }
+        may_insert(letter)
+            && matches!(
+                self.following(place, letter),
+                Some(after) if u64::from(self.owed_at(after)) + 1 == u64::from(self.owed_at(place))
+            )
     }
 
     /// Whether the end is admitted exactly where nothing is owed, and elsewhere the lead leads to it.
@@ -159,27 +143,22 @@ impl<'a> Table<'a> {
         if self.following(place, END).is_some() {
             owed == 0
         } else {
-            owed > 0 && self.leads_on(place, self.lead_at(place))
+            owed > 0 && matches!(self.lead_at(place), Some(lead) if self.leads_on(place, lead))
         }
     }
 
-    /// Whether a row keeps the laws.
+    /// Whether a place's row keeps the laws.
     fn keeps_row(&self, place: u32) -> bool
-        ensures { result ≡ keeps_row (meaning table_rule self.now) self.now.letters.now self.now.memory.now place }
+        ensures { result ≡ keeps_row (meaning table_rule self.now) self.now.letters.now self.now.memory.now self.now.rows place }
     {
         self.span_at(place) <= MOST_SPAN && self.keeps_end(place) && self.keeps_cells(place)
     }
 
     /// Whether every row keeps the laws.
     fn keeps_rows(&self) -> bool
-        ensures { result ≡ all_below (keeps_row (meaning table_rule self.now) self.now.letters.now self.now.memory.now) self.now.rows }
+        ensures { result ≡ all_below (keeps_row (meaning table_rule self.now) self.now.letters.now self.now.memory.now self.now.rows) self.now.rows }
     {
-        for row in 0..self.rows {
-            if !self.keeps_row(row) {
-                return false;
-            }
-        }
-        true
+        (0..self.rows).all(|place| self.keeps_row(place))
     }
 }
 
@@ -217,38 +196,21 @@ impl<'a> Rule for Table<'a> {
     }
 
     fn following(&self, place: u32, letter: Letter) -> Option<u32> {
-        if place >= self.rows {
-            return None;
-        }
-        let column = index_of(self.letters, letter)?;
-        self.cell(place, column)
+        self.cell(place, index_of(self.letters, letter)?)
     }
 
     fn owed_at(&self, place: u32) -> u32 {
-        if place < self.rows {
-            self.owed(place)
-        } else {
-            0
-        }
+        self.amount(place, self.letters.len())
     }
 
     fn span_at(&self, place: u32) -> u32 {
-        if place < self.rows {
-            self.amount(place, self.letters.len() + 1)
-        } else {
-            0
-        }
+        self.amount(place, self.letters.len() + 1)
     }
 
     fn lead_at(&self, place: u32) -> Option<Letter> {
-        if place >= self.rows || self.owed(place) == 0 {
+        if self.owed_at(place) == 0 {
             return None;
         }
-        let lead = self.entry(place, self.letters.len() + 2)?;
-        if lead <= Letter::MAX as u16 {
-            Some(lead as Letter)
-        } else {
-            None
-        }
+        Letter::try_from(self.entry(place, self.letters.len() + 2)?).ok()
     }
 }

@@ -48,19 +48,15 @@ impl Rule for Paired {
     }
 
     fn following(&self, place: u32, letter: Letter) -> Option<u32> {
-        if place >= 3 {
-            None
-        } else if letter == END {
-            if place == 1 { None } else { Some(2) }
-        } else if letter == TICK && place > 0 {
-            Some(place - 1)
-        } else {
-            None
+        match (place, letter) {
+            (0 | 2, END) => Some(2),
+            (1 | 2, TICK) => Some(place - 1),
+            _ => None,
         }
     }
 
     fn owed_at(&self, place: u32) -> u32 {
-        if place == 1 { 1 } else { 0 }
+        u32::from(place == 1)
     }
 
     fn span_at(&self, place: u32) -> u32 {
@@ -68,7 +64,7 @@ impl Rule for Paired {
     }
 
     fn lead_at(&self, place: u32) -> Option<Letter> {
-        if place == 1 { Some(TICK) } else { None }
+        (place == 1).then_some(TICK)
     }
 }
 
@@ -114,7 +110,7 @@ fn a_cap_has_places_up_to_its_limit(rt: HostRuntime) -> Result<(), Fail> {
     let alphabet = Alphabet::new();
     let count = Count::new(&alphabet, 255)?;
     let rule = Cap::new(Cap::standard(count)?, 15)?;
-    assert_eq!(rt; rule.place_count() as u64, MOST_PLACES);
+    assert_eq!(rt; u64::from(rule.place_count()), MOST_PLACES);
     assert_eq!(rt; rule.span_at(rule.start_place()), 15);
     assert!(rt; matches!(Cap::new(Cap::standard(count)?, 16), Err(RuleFault::Places)));
     assert!(rt; matches!(Cap::new(count, 256), Err(RuleFault::Number)));
@@ -163,10 +159,7 @@ fn refused_with(index: usize, number: u16) -> Option<RuleFault>
 }
 
 fn refused<'a>(alphabet: &'a Alphabet, memory: &'a [u16], rows: usize) -> Option<RuleFault> {
-    match Table::new(alphabet, memory, rows) {
-        Ok(_) => None,
-        Err(fault) => Some(fault),
-    }
+    Table::new(alphabet, memory, rows).err()
 }
 
 #[test]
@@ -221,8 +214,11 @@ fn a_table_owes_exactly_where_the_end_is_not_admitted(rt: HostRuntime) {
 fn a_table_leads_to_the_end(rt: HostRuntime) {
     assert_eq!(rt; refused_with(5, NO_ROW), Some(RuleFault::Rows));
     assert_eq!(rt; refused_with(7, 2), Some(RuleFault::Rows));
-    assert_eq!(rt; refused_with(9, END as u16), Some(RuleFault::Rows));
-    assert_eq!(rt; refused_with(9, TICK as u16 + 256), Some(RuleFault::Rows));
+    assert_eq!(rt; refused_with(9, u16::from(END)), Some(RuleFault::Rows));
+    assert_eq!(rt;
+        refused_with(9, u16::from(TICK) + 256),
+        Some(RuleFault::Rows)
+    );
 }
 
 #[test]
@@ -239,7 +235,7 @@ fn a_table_has_falling_spans_up_to_the_limit(rt: HostRuntime) {
 fn a_table_loses_no_more_than_one_owed_to_a_letter(rt: HostRuntime) {
     let mut alphabet = Alphabet::new();
     assert!(rt; alphabet.declare(&[3 * NUMBERS_A_KIND]).is_ok());
-    let lead = TICK as u16;
+    let lead = u16::from(TICK);
     let mut memory = [
         NO_ROW, 1, 0, 0, 3, 0, //
         NO_ROW, 2, NO_ROW, 2, 2, lead, //

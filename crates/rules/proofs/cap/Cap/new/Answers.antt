@@ -1,4 +1,4 @@
-use Rattle.std.proofs.Common.{◌≡◌, ℕ, ◌+◌, ◌*◌, ◌≤◌, ap, arith, rules}
+use Rattle.std.proofs.Common.{◌≡◌, ℕ, ◌+◌, ◌*◌, ◌≤◌, ap₂, ◌∙◌, arith, rules}
 use Rattle.rules.specs.Meaning.{most_places}
 use Rattle.rules.specs.Valued.{meaning}
 use Rattle.rules.specs.Caps.{cut}
@@ -13,7 +13,7 @@ returns g c =
     let m = meaning g.R.Rule c.args.below in
     let k = c.args.k in
     let under : m.most ≤ k = omega (arith, c.most_owed.ensures) in
-    let small : m.count * (k + 1) ≤ most_places = omega (arith, ap (λ (n : ℕ). n * (k + 1)) c.place_count.ensures) in
+    let small : m.count * (k + 1) ≤ most_places = omega (arith, ap₂ (λ (n j : ℕ). n * (j + 1)) (c.from.ensures ∙ c.place_count.ensures) c.from-2.ensures) in
     record {
       exact = search rules;
       lawful = λ l. cap_lawful cut keeps m k l under small;

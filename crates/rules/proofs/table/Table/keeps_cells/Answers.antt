@@ -1,21 +1,22 @@
-use Rattle.std.proofs.Common.{length, arith}
+use Rattle.std.proofs.Common.{◌≡◌, ℕ, length, get_or, Bool, true, false, ap, ◌∙◌, rules}
 use Rattle.rules.specs.Valued.{meaning}
-use Rattle.rules.specs.Rows.{keeps_cell}
+use Rattle.rules.specs.Tabled.{cell_at}
+use Rattle.rules.specs.Rows.{keeps_after, keeps_cell}
 use Rattle.rules.specs.Tables.{table_rule}
-use Rattle.rules.proofs.Below.{all_none, all_more, all_fails}
+use Rattle.std.proofs.lemmas.Iterator.{cases_from_all, YieldsList-from_slice}
+use Rattle.std.proofs.lemmas.Iterator.Consumers.{YieldsList-from_enumerate}
+use Rattle.std.proofs.lemmas.List.FromFn.{length-enumerate_from, get_or-enumerate_from}
+use Rattle.std.specs.List.{enumerate_from}
+use borrow.Author.Tests.{tests}
+use Rattle.rules.proofs.Below.{all_of}
+use Rattle.rules.proofs.Tabling.{start}
 use Rattle.rules.proofs.table.Table.keeps_cells.Goals as goal
 
-pub loop-column-init : goal.loop-column-init
-loop-column-init c = all_none _
-
-pub returns-then-not-keeps_cell : goal.returns-then-not-keeps_cell
-returns-then-not-keeps_cell c =
+pub returns : goal.returns
+returns c =
     let t = c.args.self.now in
-    let f = keeps_cell (meaning table_rule t) t.letters.now t.memory.now c.args.place in
-    all_fails f c.loop-column.column (length t.letters.now) c.keeps_cell.result (omega arith) c.keeps_cell.ensures c.if-not-keeps_cell.true
-
-pub loop-column-preserved : goal.loop-column-preserved
-loop-column-preserved c =
-    let t = c.args.self.now in
-    let f = keeps_cell (meaning table_rule t) t.letters.now t.memory.now c.args.place in
-    all_more f c.loop-column.column c.keeps_cell.result c.loop-column.invariant c.keeps_cell.ensures c.if-not-keeps_cell.false
+    let m = meaning table_rule t in
+    let ls = t.letters.now in
+    let h : ℕ × ℕ → Bool = λ x. keeps_after m c.args.place x.1 (cell_at ls t.memory.now t.rows c.args.place x.0) in
+    all_of (enumerate_from 0 ls) (length ls) h (keeps_cell m ls t.memory.now t.rows c.args.place) (0, 0) c.all.result (length-enumerate_from 0 ls) (λ k below. ap h (get_or-enumerate_from 0 ls k (0, 0) below ∙ ap (λ (j : ℕ). (j, get_or ls k 0)) (start k)))
+    (cases_from_all _ _ _ (λ x. h x ≡ true) (λ x. h x ≡ false) c.all.ensures.ran (YieldsList-from_enumerate (YieldsList-from_slice ls (search rules)) c.enumerate.ensures.count) (λ x q k. search (rules, tests)) (λ x q k. search (rules, tests)))

@@ -1,15 +1,17 @@
-use Rattle.std.proofs.Common.{ℕ, max, sym, ap, ◌∙◌}
+use Rattle.std.proofs.Common.{unwrap_or, sym, ap, ◌∙◌, rules, arith}
+use Rattle.std.proofs.lemmas.Bool.{cond-true, lt-ltb}
+use Rattle.std.proofs.lemmas.Iterator.{YieldsList-from_range, YieldsList-from_map}
+use Rattle.std.proofs.lemmas.Iterator.Adapters.{option_map_id}
+use Rattle.std.proofs.lemmas.Iterator.Consumers.{max_from_yields_List}
+use Rattle.rules.specs.Valued.{meaning}
 use Rattle.rules.specs.Tabled.{row_owed}
-use Rattle.rules.proofs.Below.{largest_none, largest_more}
+use Rattle.rules.specs.Tables.{table_rule}
+use Rattle.rules.proofs.Below.{largest_same, largest_of}
 use Rattle.rules.proofs.table.Table.largest_owed.Goals as goal
 
-pub loop-row-init : goal.loop-row-init
-loop-row-init c = sym (largest_none (row_owed c.args.self.now.letters.now c.args.self.now.memory.now))
-
-pub loop-row-preserved : goal.loop-row-preserved
-loop-row-preserved c =
-    let f = row_owed c.args.self.now.letters.now c.args.self.now.memory.now in
-    c.max-most.ensures
-    ∙ ap (λ (n : ℕ). max n c.loop-row.most) c.owed.ensures
-    ∙ ap (max (f c.loop-row.row)) c.loop-row.invariant
-    ∙ sym (largest_more f c.loop-row.row)
+pub returns : goal.returns
+returns c =
+    let t = c.args.self.now in
+    let f = (meaning table_rule t).owed in
+    let picked = sym (option_map_id _) ∙ max_from_yields_List c.map.result _ c.max.ensures.ran (YieldsList-from_map _ f (YieldsList-from_range 0 t.rows t.rows c.map.ensures.source (omega arith)) c.map.ensures.closure (λ x r q k. search rules)) in
+    c.unwrap_or.ensures ∙ ap (λ o. unwrap_or o 0) picked ∙ largest_of f t.rows ∙ largest_same f (row_owed t.letters.now t.memory.now) t.rows (λ k below. cond-true _ _ _ (lt-ltb k t.rows below))

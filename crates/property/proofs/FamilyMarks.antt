@@ -10,8 +10,7 @@ use Rattle.property.specs.Sized.{MarksAlso, named_before, names_before}
 use Rattle.property.specs.Sizes.{some_branch, by_branches, in_family}
 use Rattle.property.proofs.Branching.{one_branch, no_branch}
 use Rattle.property.proofs.Families.{before_true, branch_in_family, branch_some, in_family_is, itself_in_family, past_last, some_branch_true}
-use Rattle.property.proofs.SizingMarks.{or_none}
-use Rattle.property.proofs.SizingNodes.{and_none}
+use Rattle.property.proofs.SizingNodes.{and_none, or_none}
 use Rattle.property.proofs.Numbering.{before_lt, before_ge, from_earlier, lt_or_ge}
 
 -- what is marked and what the branches that are left name are together what is to be marked

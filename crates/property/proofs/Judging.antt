@@ -10,7 +10,8 @@ use Rattle.records.specs.Records.{kind_of}
 use Rattle.property.specs.declared.fault.PropertyFault.{PropertyFault}
 use Rattle.property.specs.declared.fault.PropertyFault.TheVariants.{Declaration, TooManyNodes, NotEarlier, WrongKind, BranchLetter, OpenLap}
 use Rattle.property.specs.declared.node.Node.{Node}
-use Rattle.property.specs.Checks.{Parts, most_nodes, every, names, named_earlier, named_kinds, letters_in_order, lap_closes, alphabet_of, barred_next, least_past, node_fault, with_letter, with_node, unless, judge, has_property}
+use Rattle.property.specs.Checks.{Parts, most_nodes, names, named_earlier, named_kinds, letters_in_order, lap_closes, alphabet_of, barred_next, least_past, node_fault, with_letter, with_node, unless, judge, has_property}
+use Rattle.std.specs.List.{list_all}
 use Rattle.property.specs.Closing.{closes_by}
 use Rattle.property.specs.Drafts.{parts, with_parts, refused, Kept}
 use Rattle.property.specs.Meant.{meant, all_meant}
@@ -115,8 +116,8 @@ pub count_meant : (file : List ℕ) (ns : List Node) → length (all_meant file 
 count_meant file ns = length-map ns (meant file)
 
 -- what is said of nodes that were lent is said of those that are stored
-pub earlier_at : (file : List ℕ) (ns stored : List Node) (n : N.Node) → ns ≡ stored → every (λ m. ltb m (length ns)) (names n) ≡ named_earlier (all_meant file stored) n
-earlier_at file ns stored n e = ap (λ k. every (λ m. ltb m k) (names n)) (ap length e ∙ sym (count_meant file stored))
+pub earlier_at : (file : List ℕ) (ns stored : List Node) (n : N.Node) → ns ≡ stored → list_all (λ m. ltb m (length ns)) (names n) ≡ named_earlier (all_meant file stored) n
+earlier_at file ns stored n e = ap (λ k. list_all (λ m. ltb m k) (names n)) (ap length e ∙ sym (count_meant file stored))
 
 pub kinds_at : (file : List ℕ) (ns stored : List Node) (n : N.Node) → ns ≡ stored → named_kinds (all_meant file ns) n ≡ named_kinds (all_meant file stored) n
 kinds_at file ns stored n e = ap (λ ms. named_kinds (all_meant file ms) n) e

@@ -10,7 +10,6 @@ pub mod Meaning
 pub mod Measuring
 pub mod Naming
 pub mod Numbering
-pub mod SizingMarks
 pub mod SizingNodes
 pub mod SizingSums
 pub mod Soundness

@@ -10,11 +10,10 @@ use Rattle.letters.specs.Alphabets.{among, ascending_from}
 use Rattle.records.specs.Records.{two_bytes}
 use Rattle.std.proofs.lemmas.Bool.{and_right}
 use Rattle.std.proofs.lemmas.Bool.Decides.{nat_tests}
-use Rattle.property.specs.Checks.{names, branch_letters}
+use Rattle.property.specs.Checks.{branch_letters}
 use Rattle.std.specs.List.{list_all}
-use Rattle.property.specs.Closing.{each_closes, branch_closes}
 use Rattle.property.specs.Drafts.{out, first_out}
-use Rattle.property.specs.Nodes.{Node, Choice, branches}
+use Rattle.property.specs.Nodes.{Choice, branches}
 use Rattle.property.proofs.Numbering.{lt_or_ge}
 
 three : (x left : List ℕ) → length x ≡ 3 → branches (x ++ left) ≡ (get_or x 0 0, two_bytes x 1) ∷ branches left
@@ -65,13 +64,6 @@ first_bytes rest kept count e = elim (lt_or_ge count (length rest)) [
 
 -- one turn of a loop over the branches: x is the next, and `left` comes after it
 module _ (rest x left : List ℕ) (cut : rest ≡ x ++ left) (long : length x ≡ 3) where
-  pub all_step : (P : ℕ → Bool) → list_all P (names (Choice (branches rest))) ≡ (P (two_bytes x 1) && list_all P (names (Choice (branches left))))
-  all_step P = ap (λ bs. list_all P (names (Choice bs))) (one_branch rest x left cut long)
-
-  pub closes_step : (ns : List Node) (f : ℕ → Bool) → each_closes ns f (branches rest) ≡ (branch_closes ns f (get_or x 0 0, two_bytes x 1) && each_closes ns f (branches left))
-  unfolding each_closes
-  closes_step ns f = ap (each_closes ns f) (one_branch rest x left cut long)
-
   out_step : (alphabet : List ℕ) (least i : ℕ)
       → first_out alphabet least i (branch_letters (Choice (branches rest))) ≡ cond (out alphabet least (get_or x 0 0)) (Some i) (first_out alphabet (suc (get_or x 0 0)) (suc i) (branch_letters (Choice (branches left))))
   unfolding first_out
@@ -93,13 +85,6 @@ module _ (rest x left : List ℕ) (cut : rest ≡ x ++ left) (long : length x �
 
 -- no branch is left
 module _ (rest : List ℕ) (short : length rest < 3) where
-  pub all_end : (P : ℕ → Bool) → list_all P (names (Choice (branches rest))) ≡ true
-  all_end P = ap (λ bs. list_all P (names (Choice bs))) (no_branch rest short)
-
-  pub closes_end : (ns : List Node) (f : ℕ → Bool) → each_closes ns f (branches rest) ≡ true
-  unfolding each_closes
-  closes_end ns f = ap (each_closes ns f) (no_branch rest short)
-
   pub out_end : (alphabet : List ℕ) (least i : ℕ) → first_out alphabet least i (branch_letters (Choice (branches rest))) ≡ None
   unfolding first_out
   out_end alphabet least i = ap (λ bs. first_out alphabet least i (branch_letters (Choice bs))) (no_branch rest short)

@@ -13,7 +13,7 @@ use Rattle.property.specs.Drafts.{AllNamed}
 use Rattle.property.specs.Nodes.{Node, Nothing, Choice, Sequence, Both, Lap, All, node, is_nothing}
 use Rattle.property.specs.Numbered.{before}
 use Rattle.property.specs.Placed.{closings}
-use Rattle.property.proofs.Numbering.{before_lt, before_ge, lt_or_ge, by_number_is, from_earlier}
+use Rattle.property.proofs.Numbering.{before_same, before_lt, before_ge, lt_or_ge, by_number_is, from_earlier}
 
 pub all_weaker : (P Q : ℕ → Bool) → ((m : ℕ) → P m ≡ true → Q m ≡ true) → (ms : List ℕ) → list_all P ms ≡ true → list_all Q ms ≡ true
 all_weaker P Q h [] e = refl
@@ -39,13 +39,6 @@ module _ (ns ms : List Node) (f : ℕ → Bool) (k : ℕ) (same : (m : ℕ) → 
   by_same (Lap a) e = refl
   by_same (All a b) e = refl
 
-before_same : (f g : ℕ → Bool) (n : ℕ) → ((m : ℕ) → m < n → f m ≡ g m) → before false n f ≡ before false n g
-before_same f g n h =
-    fun_ext (λ m. elim (lt_or_ge m n) [
-      | inl l ↦ before_lt false n f m l ∙ h m l ∙ sym (before_lt false n g m l)
-      | inr l ↦ before_ge false n f m l ∙ sym (before_ge false n g m l)
-    ])
-
 -- where `closing` says so of the earlier nodes
 abbrev at_node : List Node → (ℕ → Bool) → ℕ → Bool
 at_node ns closing n = closes_by ns closing (node ns n)
@@ -55,7 +48,7 @@ module _ (ns more : List Node) (named : AllNamed ns) where
   earlier_same n ih l =
       by_number_is false (at_node (ns ++ more)) n
       ∙ ap (λ (x : Node). closes_by (ns ++ more) (before false n (λ m. closes (ns ++ more) m)) x) (get_or_append_left ns more Nothing n l)
-      ∙ ap (λ (f : ℕ → Bool). closes_by (ns ++ more) f (node ns n)) (before_same (λ m. closes (ns ++ more) m) (λ m. closes ns m) n (λ m h. ih m h (omega arith)))
+      ∙ ap (λ (f : ℕ → Bool). closes_by (ns ++ more) f (node ns n)) (before_same false (λ m. closes (ns ++ more) m) (λ m. closes ns m) n (λ m h. ih m h (omega arith)))
       ∙ by_same (ns ++ more) ns (before false n (λ m. closes ns m)) (length ns) (λ m h. get_or_append_left ns more Nothing m h) (node ns n) (named n l)
       ∙ sym (by_number_is false (at_node ns) n)
 
@@ -68,7 +61,7 @@ module _ (ns : List Node) (x : Node) (named : AllNamed ns) (earlier : named_earl
   last_closes =
       by_number_is false (at_node (ns ++ x ∷ [])) (length ns)
       ∙ ap (λ (y : Node). closes_by (ns ++ x ∷ []) (before false (length ns) (λ m. closes (ns ++ x ∷ []) m)) y) (get_or_push ns x Nothing (length ns) refl)
-      ∙ ap (λ (f : ℕ → Bool). closes_by (ns ++ x ∷ []) f x) (before_same (λ m. closes (ns ++ x ∷ []) m) (λ m. closes ns m) (length ns) (λ m h. closes_before ns (x ∷ []) named m h))
+      ∙ ap (λ (f : ℕ → Bool). closes_by (ns ++ x ∷ []) f x) (before_same false (λ m. closes (ns ++ x ∷ []) m) (λ m. closes ns m) (length ns) (λ m h. closes_before ns (x ∷ []) named m h))
       ∙ by_same (ns ++ x ∷ []) ns (before false (length ns) (λ m. closes ns m)) (length ns) (λ m h. get_or_append_left ns (x ∷ []) Nothing m h) x earlier
 
 pub closing_at : (ns : List Node) (m : ℕ) → m < length ns → get_or (closings ns) m false ≡ closes ns m

@@ -8,7 +8,6 @@ pub mod Judging
 pub mod Lettering
 pub mod Meaning
 pub mod Measuring
-pub mod Naming
 pub mod Numbering
 pub mod SizingNodes
 pub mod SizingSums

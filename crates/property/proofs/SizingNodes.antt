@@ -1,5 +1,5 @@
 -- The size of a program's node, by its kind, from the sizes kept of the earlier ones.
-use Rattle.std.proofs.Common.{zip, take, length-take-le, ◌≡◌, ℕ, ◌+◌, ◌*◌, ◌<◌, ◌≤◌, max, Bool, true, false, cond, ◌&&◌, ◌||◌, eqb, ltb, ◌⊎◌, List, [], ◌∷◌, length, get_or, set, sym, refl, ap, ◌∙◌, subst, ap₂, inl, inr, arith, get_or-set_other, get_or-set_same}
+use Rattle.std.proofs.Common.{zip, take, length-take-le, ◌≡◌, ℕ, ◌+◌, ◌*◌, ◌<◌, ◌≤◌, max, Bool, true, false, cond, ◌&&◌, ◌||◌, ltb, ◌⊎◌, List, [], ◌∷◌, length, get_or, set, sym, refl, ap, ◌∙◌, subst, ap₂, inl, inr, arith, get_or-set_other, get_or-set_same}
 use lib.ListN.{get_or-map}
 use Rattle.std.proofs.lemmas.List.{get_or_past, get_or-take}
 use Rattle.std.proofs.lemmas.Bool.{and_parts, ltb-true}
@@ -10,8 +10,8 @@ use Rattle.std.specs.List.{list_all}
 use Rattle.property.specs.Meant.{meant, all_meant}
 use Rattle.property.specs.Nodes as N
 use Rattle.property.specs.Numbered.{before}
-use Rattle.property.specs.Sized.{NamesEarlier, Kept, MarksAlso, branches_at, counted, cut, marked_sum, named_before, names_before}
-use Rattle.property.specs.Sizes.{by_branches, in_family, size, size_by, total, weight}
+use Rattle.property.specs.Sized.{NamesEarlier, Kept, counted, cut, marked_sum}
+use Rattle.property.specs.Sizes.{in_family, size, size_by, total, weight}
 use Rattle.property.proofs.Families.{earlier_at, itself_in_family}
 use Rattle.property.proofs.Numbering.{before_lt, by_number_is, lt_or_ge}
 use Rattle.property.proofs.SizingSums.{cut_again, cut_lap, cut_product, cut_sum, cut_sum_left, marked_sum_is, marked_weight, total_cut}
@@ -46,14 +46,6 @@ cut_cond : (b : Bool) (x y : ℕ) → cut x ≡ cut y → cut (cond b x 0) ≡ c
 cut_cond true x y e = e
 cut_cond false x y e = refl
 
-no_branches : (file : List ℕ) (test : ℕ → Bool) (x : Node) → ((start count : ℕ) → x ≡ Choice start count → ⊥) → by_branches test (meant file x) ≡ false
-no_branches file test Nothing h = refl
-no_branches file test (Choice start count) h = absurd (h start count refl)
-no_branches file test (Sequence c d) h = refl
-no_branches file test (Both c d) h = refl
-no_branches file test (Lap c) h = refl
-no_branches file test (All c d) h = refl
-
 pub or_none : (x : Bool) → x ≡ (x || false)
 or_none true = refl
 or_none false = refl
@@ -73,20 +65,6 @@ module _ (file : List ℕ) (nodes : List Node) where
   size_is n x e =
       by_number_is 0 (λ sizes k. size_by (all_meant file nodes) sizes k (N.node (all_meant file nodes) k)) n
       ∙ ap (size_by (all_meant file nodes) (before 0 n (size (all_meant file nodes))) n) (node_meant n x e)
-
-  -- a node that is no Choice names no earlier one
-  pub marks_none_before : (was : List Bool) (n : ℕ) → ((start count : ℕ) → get_or nodes n Nothing ≡ Choice start count → ⊥) → MarksAlso (named_before (all_meant file nodes) was n) was was
-  marks_none_before was n h m =
-      and_none (get_or was m false) (get_or was n false)
-      ∙ sym (ap (λ b. get_or was m false || (get_or was n false && b))
-      (ap (by_branches (before false n (λ k. eqb k m))) (node_meant n (get_or nodes n Nothing) refl) ∙ no_branches file (before false n (λ k. eqb k m)) (get_or nodes n Nothing) h))
-
-  -- a marked Choice marks the earlier nodes of its branches
-  pub marks_branches_before : (was marked : List Bool) (n start count : ℕ) → get_or nodes n Nothing ≡ Choice start count → get_or was n false ≡ true
-      → MarksAlso (names_before (branches_at file start count) n) was marked → MarksAlso (named_before (all_meant file nodes) was n) was marked
-  marks_branches_before was marked n start count e here also m =
-      also m
-      ∙ sym (ap₂ (λ x y. get_or was m false || (x && by_branches (before false n (λ k. eqb k m)) y)) here (node_meant n (Choice start count) e))
 
   -- a Choice stands before the end
   pub choice_within : (n start count : ℕ) → get_or nodes n Nothing ≡ Choice start count → n < length nodes

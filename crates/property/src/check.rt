@@ -45,19 +45,19 @@ fn node_of(item: Record, at: usize) -> Node
     }
 }
 
-/// Whether the letters of a Choice ascend and are in the alphabet of the letters declared.
-fn letters_in_order(file: &[u8], declared: &[Letter], node: Node) -> bool
-    ensures { result ≡ letters_in_order (declared.now ++ bare) (meant file.now node) }
-{
-    match node {
-        Node::Choice(start, count) => {
-            first_out(declared, branches_at(file, start, count)).is_none()
-        }
-        _ => true,
-    }
-}
-
 impl Listed<'_> {
+    /// Whether the letters of a Choice ascend and are in the alphabet of the letters declared.
+    fn letters_in_order(&self, declared: &[Letter], node: Node) -> bool
+        ensures { result ≡ letters_in_order (declared.now ++ bare) (meant self.now.file.now node) }
+    {
+        match node {
+            Node::Choice(start, count) => {
+                first_out(declared, branches_at(self.file, start, count)).is_none()
+            }
+            _ => true,
+        }
+    }
+
     /// Whether a node passes the checks after the earlier ones.
     fn check_node(
         &self,
@@ -78,7 +78,7 @@ impl Listed<'_> {
         if !self.names_kinds(node) {
             return Err(PropertyFault::WrongKind(at));
         }
-        if !letters_in_order(self.file, declared, node) {
+        if !self.letters_in_order(declared, node) {
             return Err(PropertyFault::BranchLetter(at));
         }
         if !lap_closes(closing, node) {

@@ -4,8 +4,7 @@ use Rattle.property.specs.Checks.{letters_in_order, branch_letters}
 use Rattle.property.specs.Meant.{meant}
 use Rattle.property.specs.Nodes.{branches, Choice}
 use Rattle.property.proofs.Branching.{in_order}
-use Rattle.property.proofs.Naming.{no_letters}
-use Rattle.property.proofs.check.letters_in_order.Goals as goal
+use Rattle.property.proofs.listed.Listed.letters_in_order.Goals as goal
 
 flipped : (a b : Bool) → a ≡ not b → not a ≡ b
 flipped a true e = ap not e
@@ -18,7 +17,4 @@ returns-in-Choice c =
     ∙ ap (λ o. not (is_some o)) c.first_out.ensures
     ∙ in_order alphabet 0 0 (branch_letters (Choice (branches c.branches_at.result.now)))
     ∙ ap (λ bs. letters_in_order alphabet (Choice (branches bs))) c.branches_at.ensures
-    ∙ sym (ap (λ n. letters_in_order alphabet (meant c.args.file.now n)) c.in-Choice.is)
-
-pub returns-in_default : goal.returns-in_default
-returns-in_default c = sym (no_letters c.args.file.now (c.args.declared.now ++ bare) c.args.node c.in_default.not-Choice)
+    ∙ sym (ap (λ n. letters_in_order alphabet (meant c.args.self.now.file.now n)) c.in-Choice.is)

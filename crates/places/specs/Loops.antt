@@ -3,10 +3,8 @@ use Rattle.std.specs.Prelude.{◌≡◌, ℕ, ◌<◌, true, List, Some, Option,
 use Rattle.letters.specs.Letters.{end}
 use Rattle.letters.specs.Alphabets.{among}
 use Rattle.rules.specs.Lists.{follow_by}
-
--- the most places that a table is made for
-abbrev pub most_size : ℕ
-most_size = 1024
+-- the most places that a table is made for: as many as a size counts
+pub use Rattle.property.specs.Sized.{most_size}
 
 pub record Loop : Type 0 where
   -- how many places there are, numbered from 0

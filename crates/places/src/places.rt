@@ -3,8 +3,8 @@ ghost use Rattle.places.specs.Loops.{Loop, most_size};
 
 use letters::letter::Letter;
 
-/// The most places that a table is made for.
-pub const MOST_SIZE: u16 = 1024;
+/// The most places that a table is made for: as many as a size counts.
+pub use property::sizes::MOST_SIZE;
 
 /// A loop of places, as a table is filled from it.
 pub trait Places {

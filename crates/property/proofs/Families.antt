@@ -2,7 +2,8 @@
 use Rattle.std.proofs.Common.{◌≡◌, ℕ, ◌<◌, ◌≤◌, Bool, true, false, ◌||◌, eqb, ltb, List, [], ◌∷◌, map, length, sym, refl, ap, ◌∙◌, subst, inl, inr, arith}
 use lib.ListN.{get_or-eq_default}
 use Rattle.std.proofs.lemmas.Bool.{or_cases, or_left, or_right, and_parts, eqb-true, eq-eqb, ltb-true, false≢true}
-use Rattle.property.specs.Checks.{every, names}
+use Rattle.property.specs.Checks.{names}
+use Rattle.std.specs.List.{list_all}
 use Rattle.property.specs.Nodes.{Node, Nothing, Choice, Sequence, Both, Lap, All, node, Branch}
 use Rattle.property.specs.Numbered.{before}
 use Rattle.property.specs.Sized.{NamesEarlier, FamilyTestIsExact}
@@ -14,15 +15,13 @@ pub past_last : (nodes : List Node) (n : ℕ) → length nodes ≤ n → node no
 past_last nodes n h = get_or-eq_default nodes Nothing h
 
 -- so the bound need not be asked for
-pub earlier_at : (nodes : List Node) → NamesEarlier nodes → (n : ℕ) → every (λ m. ltb m n) (names (node nodes n)) ≡ true
-unfolding every
+pub earlier_at : (nodes : List Node) → NamesEarlier nodes → (n : ℕ) → list_all (λ m. ltb m n) (names (node nodes n)) ≡ true
 earlier_at nodes ok n = elim (lt_or_ge n (length nodes)) [
   | inl h ↦ ok n h
-  | inr h ↦ ap (λ x. every (λ m. ltb m n) (names x)) (past_last nodes n h)
+  | inr h ↦ ap (λ x. list_all (λ m. ltb m n) (names x)) (past_last nodes n h)
 ]
 
-pub branch_named : (test : ℕ → Bool) (bs : List (ℕ × ℕ)) (l k : ℕ) → every test (map (λ (b : ℕ × ℕ). b.1) bs) ≡ true → Branch bs l k → test k ≡ true
-unfolding every
+pub branch_named : (test : ℕ → Bool) (bs : List (ℕ × ℕ)) (l k : ℕ) → list_all test (map (λ (b : ℕ × ℕ). b.1) bs) ≡ true → Branch bs l k → test k ≡ true
 branch_named test [] l k e b = absurd b
 branch_named test (c ∷ bs) l k e (inl b) = ap test (sym b.1) ∙ (and_parts (test c.1) _ e).0
 branch_named test (c ∷ bs) l k e (inr b) = branch_named test bs l k (and_parts (test c.1) _ e).1 b
@@ -89,7 +88,7 @@ module _ (nodes : List Node) where
   module _ (ok : NamesEarlier nodes) where
     pub branch_earlier : {n m : ℕ} {bs : List (ℕ × ℕ)} (l : ℕ) → node nodes n ≡ Choice bs → Branch bs l m → m < n
     branch_earlier {n} {m} {bs} l e b =
-        ltb-true m n (branch_named (λ k. ltb k n) bs l m (sym (ap (λ x. every (λ k. ltb k n) (names x)) e) ∙ earlier_at nodes ok n) b)
+        ltb-true m n (branch_named (λ k. ltb k n) bs l m (sym (ap (λ x. list_all (λ k. ltb k n) (names x)) e) ∙ earlier_at nodes ok n) b)
 
     pub family_le : {n m : ℕ} → Family nodes n m → m ≤ n
     family_le itself = omega arith

@@ -10,8 +10,7 @@ use Rattle.property.specs.Sized.{MarksAlso, named_before, names_before}
 use Rattle.property.specs.Sizes.{some_branch, by_branches, in_family}
 use Rattle.property.proofs.Branching.{one_branch, no_branch}
 use Rattle.property.proofs.Families.{before_true, branch_in_family, branch_some, in_family_is, itself_in_family, past_last, some_branch_true}
-use Rattle.property.proofs.SizingMarks.{or_none}
-use Rattle.property.proofs.SizingNodes.{and_none}
+use Rattle.property.proofs.SizingNodes.{or_none}
 use Rattle.property.proofs.Numbering.{before_lt, before_ge, from_earlier, lt_or_ge}
 
 -- what is marked and what the branches that are left name are together what is to be marked
@@ -183,9 +182,3 @@ module _ (nodes : List Node) (n : ℕ) where
   swept_skip marked m h s e =
       swept_more marked marked m h s
       (λ k. or_none (get_or marked k false) ∙ sym (ap (λ b. get_or marked k false || (b && by_branches (before false (m - 1) (λ j. eqb j k)) (node nodes (m - 1)))) e))
-
--- a node past the last names none
-pub marks_past : (nodes : List Node) (marked : List Bool) (n : ℕ) → length nodes ≤ n → MarksAlso (named_before nodes marked n) marked marked
-marks_past nodes marked n h m =
-    and_none (get_or marked m false) (get_or marked n false)
-    ∙ sym (ap (λ x. get_or marked m false || (get_or marked n false && by_branches (before false n (λ k. eqb k m)) x)) (past_last nodes n h))

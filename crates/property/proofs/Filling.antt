@@ -50,11 +50,11 @@ unfolding judge_all
 unopened file fault e = sym (ap (rest file no_parts) e) ∙ whole file
 
 -- an answer of the reader
-abbrev Answer : Type 0
+abbrev pub Answer : Type 0
 Answer = Result (Option (Record × ℕ)) ReadFault
 
 -- what the reader hands out of the file that it holds, it hands out of the file
-hands_of : (file seen : List ℕ) (at after : ℕ) (x y : Answer) → seen ≡ file → Hands seen at x after → x ≡ y → Hands file at y after
+pub hands_of : (file seen : List ℕ) (at after : ℕ) (x y : Answer) → seen ≡ file → Hands seen at x after → x ≡ y → Hands file at y after
 hands_of file seen at after x y e h k = subst (λ z. Hands file at z after) k (subst (λ f. Hands f at x after) e h)
 
 one_judged : (file : List ℕ) (s t : Parts) (i : Item) (r : Reading) → Ok t ≡ judge s i → rest file t r ≡ rest file s (with_item i r)

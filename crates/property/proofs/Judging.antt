@@ -1,7 +1,7 @@
 -- One record judged: from the checks of the program to the definition.
-use Rattle.std.proofs.Common.{◌≡◌, ℕ, ◌-◌, ◌<◌, ◌≤◌, Bool, true, false, cond, not, ◌&&◌, ◌||◌, ltb, leb, List, [], ◌∷◌, ◌++◌, length, get_or, Some, None, Ok, Err, Option, Result, sym, refl, ap, ◌∙◌, subst, arith, Bor}
+use Rattle.std.proofs.Common.{◌≡◌, ℕ, ◌<◌, ◌≤◌, Bool, true, false, cond, not, ◌||◌, ltb, leb, List, [], ◌∷◌, ◌++◌, length, get_or, Some, None, Ok, Err, Option, Result, sym, refl, ap, ◌∙◌, subst, arith, Bor}
 use Rattle.std.proofs.lemmas.List.{length-map, map_push}
-use Rattle.std.proofs.lemmas.Bool.{ne_eqb, le-leb, lt-leb, leb-false, lt-ltb}
+use Rattle.std.proofs.lemmas.Bool.{ne_eqb, leb-false}
 use Rattle.letters.specs.Alphabets.{barred}
 use Rattle.records.specs.declared.record.Record.{Record}
 use Rattle.records.specs.declared.record.Record.TheVariants.{Letter, Nothing, Choice, Sequence, Both, Lap, All}
@@ -10,7 +10,7 @@ use Rattle.records.specs.Records.{kind_of}
 use Rattle.property.specs.declared.fault.PropertyFault.{PropertyFault}
 use Rattle.property.specs.declared.fault.PropertyFault.TheVariants.{Declaration, TooManyNodes, NotEarlier, WrongKind, BranchLetter, OpenLap}
 use Rattle.property.specs.declared.node.Node.{Node}
-use Rattle.property.specs.Checks.{Parts, most_nodes, every, names, named_earlier, named_kinds, letters_in_order, lap_closes, alphabet_of, barred_next, least_past, node_fault, with_letter, with_node, unless, judge, has_property}
+use Rattle.property.specs.Checks.{Parts, most_nodes, named_earlier, named_kinds, letters_in_order, lap_closes, alphabet_of, barred_next, least_past, node_fault, with_letter, with_node, unless, judge}
 use Rattle.property.specs.Closing.{closes_by}
 use Rattle.property.specs.Drafts.{parts, with_parts, refused, Kept}
 use Rattle.property.specs.Meant.{meant, all_meant}
@@ -26,29 +26,6 @@ chain full earlier kinds letters closed at =
     (cond (not letters) (Some (BranchLetter at))
     (cond (not closed) (Some (OpenLap at))
     None))))
-
-module _ (s : Parts) (n : N.Node) (at : ℕ) where
-  pub full : most_nodes ≤ length s.nodes → Err (TooManyNodes at) ≡ refused (node_fault s n at)
-  full h = sym (ap (λ (t : Bool). refused (chain t (named_earlier s.nodes n) (named_kinds s.nodes n) (letters_in_order (alphabet_of s) n) (lap_closes s.nodes n) at)) (le-leb most_nodes (length s.nodes) h))
-
-  module _ (room : length s.nodes < most_nodes) where
-    pub not_earlier : named_earlier s.nodes n ≡ false → Err (NotEarlier at) ≡ refused (node_fault s n at)
-    not_earlier e = let r = lt-leb most_nodes (length s.nodes) room in rw (r, e)
-
-    module _ (earlier : named_earlier s.nodes n ≡ true) where
-      pub wrong_kind : named_kinds s.nodes n ≡ false → Err (WrongKind at) ≡ refused (node_fault s n at)
-      wrong_kind e = let r = lt-leb most_nodes (length s.nodes) room in rw (r, earlier, e)
-
-      module _ (kinds : named_kinds s.nodes n ≡ true) where
-        pub branch_letter : letters_in_order (alphabet_of s) n ≡ false → Err (BranchLetter at) ≡ refused (node_fault s n at)
-        branch_letter e = let r = lt-leb most_nodes (length s.nodes) room in rw (r, earlier, kinds, e)
-
-        module _ (letters : letters_in_order (alphabet_of s) n ≡ true) where
-          pub open_lap : lap_closes s.nodes n ≡ false → Err (OpenLap at) ≡ refused (node_fault s n at)
-          open_lap e = let r = lt-leb most_nodes (length s.nodes) room in rw (r, earlier, kinds, letters, e)
-
-          pub sound : lap_closes s.nodes n ≡ true → Ok tt ≡ refused (node_fault s n at)
-          sound e = let r = lt-leb most_nodes (length s.nodes) room in rw (r, earlier, kinds, letters, e)
 
 -- what a node that passed the checks has passed
 passed : (full earlier kinds letters closed : Bool) (at : ℕ) → Ok tt ≡ refused (chain full earlier kinds letters closed at) → (full ≡ false) × (earlier ≡ true)
@@ -113,31 +90,6 @@ not_letter (All b) h = omega arith
 -- as many nodes stand there as there are
 pub count_meant : (file : List ℕ) (ns : List Node) → length (all_meant file ns) ≡ length ns
 count_meant file ns = length-map ns (meant file)
-
--- what is said of nodes that were lent is said of those that are stored
-pub earlier_at : (file : List ℕ) (ns stored : List Node) (n : N.Node) → ns ≡ stored → every (λ m. ltb m (length ns)) (names n) ≡ named_earlier (all_meant file stored) n
-earlier_at file ns stored n e = ap (λ k. every (λ m. ltb m k) (names n)) (ap length e ∙ sym (count_meant file stored))
-
-pub kinds_at : (file : List ℕ) (ns stored : List Node) (n : N.Node) → ns ≡ stored → named_kinds (all_meant file ns) n ≡ named_kinds (all_meant file stored) n
-kinds_at file ns stored n e = ap (λ ms. named_kinds (all_meant file ms) n) e
-
-pub room_at : (file : List ℕ) (ns stored : List Node) → ns ≡ stored → length ns < most_nodes → length (all_meant file stored) < most_nodes
-room_at file ns stored e h = let k : length (all_meant file stored) ≡ length ns = count_meant file stored ∙ ap length (sym e) in omega arith
-
-pub property_is : (ds : List ℕ) (ns : List N.Node) → has_property (parts ds ns) ≡ N.is_loop (N.node ns (length ns - 1))
-property_is ds [] = refl
-property_is ds (n ∷ ns) = ap (λ (t : Bool). t && N.is_loop (N.node (n ∷ ns) (length (n ∷ ns) - 1))) (lt-ltb 0 (length (n ∷ ns)) (omega arith))
-
-pub some_nodes : (file ds : List ℕ) (ns stored : List Node) (b : ℕ) → ns ≡ stored → 0 < length ns → ltb 0 (length ns) ≡ barred_next (parts ds (all_meant file stored)) b
-some_nodes file ds ns stored b e h =
-    let k : length (all_meant file stored) ≡ length ns = count_meant file stored ∙ ap length (sym e) in
-    let t = lt-ltb 0 (length ns) h in
-    t ∙ sym (ap (λ (m : ℕ). ltb 0 m || barred (least_past ds) (length ds) b) k ∙ ap (λ (t : Bool). t || barred (least_past ds) (length ds) b) t)
-
-pub no_nodes : (file ds : List ℕ) (ns stored : List Node) (b : ℕ) (r : Bool) → ns ≡ stored → length ns ≤ 0 → r ≡ barred (least_past ds) (length ds) b → r ≡ barred_next (parts ds (all_meant file stored)) b
-no_nodes file ds ns stored b r e h q =
-    let k : length (all_meant file stored) ≡ 0 = count_meant file stored ∙ ap length (sym e) ∙ (let z : length ns ≡ 0 = omega arith in z) in
-    q ∙ sym (ap (λ (m : ℕ). ltb 0 m || barred (least_past ds) (length ds) b) k)
 
 -- the record of a node that was checked
 pub checked_node : (ds letters : List ℕ) (ns : List N.Node) (x : N.Node) (kind : ℕ) (body : List ℕ) (at : ℕ) (r : Result (Unit {0}) PropertyFault)

@@ -8,9 +8,7 @@ pub mod Judging
 pub mod Lettering
 pub mod Meaning
 pub mod Measuring
-pub mod Naming
 pub mod Numbering
-pub mod SizingMarks
 pub mod SizingNodes
 pub mod SizingSums
 pub mod Soundness

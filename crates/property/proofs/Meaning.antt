@@ -1,6 +1,5 @@
 -- The nodes that a program's nodes stand for, by their numbers.
-use Rattle.std.proofs.Common.{◌≡◌, ℕ, zero, suc, ◌≤◌, List, [], ◌∷◌, length, get_or, refl, ap, ◌∙◌}
-use Rattle.std.proofs.lemmas.List.{get_or_past}
+use Rattle.std.proofs.Common.{◌≡◌, ℕ, zero, suc, List, [], ◌∷◌, get_or, refl}
 use Rattle.property.specs.declared.node.Node.{Node}
 use Rattle.property.specs.declared.node.Node.TheVariants.{Nothing}
 use Rattle.property.specs.Meant.{meant, all_meant}
@@ -10,6 +9,3 @@ pub node_meant : (file : List ℕ) (ns : List Node) (m : ℕ) → N.node (all_me
 node_meant file [] m = refl
 node_meant file (n ∷ ns) zero = refl
 node_meant file (n ∷ ns) (suc m) = node_meant file ns m
-
-pub node_past : (file : List ℕ) (ns : List Node) (m : ℕ) → length ns ≤ m → N.node (all_meant file ns) m ≡ N.Nothing
-node_past file ns m h = node_meant file ns m ∙ ap (meant file) (get_or_past ns m Nothing h)

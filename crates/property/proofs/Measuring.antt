@@ -4,13 +4,12 @@ use Rattle.std.proofs.lemmas.List.FromFn.{fill_by_all}
 use Rattle.std.proofs.lemmas.List.{get_or-take}
 use Rattle.records.specs.Readings.{reading}
 use Rattle.property.specs.declared.place.Nodes.{Nodes}
-use Rattle.property.specs.Checks.{Parts, alphabet_of, checked, most_nodes}
+use Rattle.property.specs.Checks.{Parts, alphabet_of, checked}
 use Rattle.property.specs.Meant.{all_meant}
 use Rattle.property.specs.Nodes as N
 use Rattle.property.specs.Placed.{stored, nodes_in, closing_in, closings, sizes_in, sizes_of, last_offset, PlaceAfter}
-use Rattle.property.specs.Sized.{Kept, LaidOut, cut}
+use Rattle.property.specs.Sized.{Kept, NamesEarlier, cut}
 use Rattle.property.specs.Sizes.{size}
-use Rattle.property.specs.Sound.{Sound}
 use Rattle.property.proofs.Soundness.{sound, sound_earlier}
 
 pub measured : (ns : List N.Node) (xs : List ℕ) (count : ℕ) → count ≡ length ns → count ≤ length xs → Kept ns xs count → take count xs ≡ sizes_of ns
@@ -19,11 +18,8 @@ measured ns xs count e h k =
     fill_by_all (λ n. cut (size ns n)) (take count xs) (length ns) 0 (length-take-le count xs h ∙ e)
     (λ m l. get_or-take count xs m 0 (omega arith) ∙ k m (omega arith))
 
-pub laid_out : (file : List ℕ) (place : Nodes) (parts : Parts) → length (stored place) ≤ most_nodes → checked file ≡ Ok parts → parts.nodes ≡ nodes_in file place → LaidOut file (stored place)
-laid_out file place parts few e same = record {
-  few = few;
-  earlier = sound_earlier (alphabet_of parts) (nodes_in file place) (subst (Sound (alphabet_of parts)) same (sound file parts e));
-}
+pub named_earlier : (file : List ℕ) (parts : Parts) → checked file ≡ Ok parts → NamesEarlier parts.nodes
+named_earlier file parts e = sound_earlier (alphabet_of parts) parts.nodes (sound file parts e)
 
 -- what reading leaves in the place on success
 pub all_held : (file : List ℕ) (parts : Parts) (place last : Nodes) → checked file ≡ Ok parts → parts.nodes ≡ nodes_in file place

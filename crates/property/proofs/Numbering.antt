@@ -16,21 +16,22 @@ by_order m n false e = inr (ltb-false m n e)
 pub lt_or_ge : (m n : ℕ) → (m < n) ⊎ (n ≤ m)
 lt_or_ge m n = by_order m n (ltb m n) refl
 
-module _ {A : Type 0} (d : A) (F : (ℕ → A) → ℕ → A) where
-  before_same : (f g : ℕ → A) (n m : ℕ) → (m < n → f m ≡ g m) → before d n f m ≡ before d n g m
-  before_same f g n m h = elim (lt_or_ge m n) [
-    | inl l ↦ before_lt d n f m l ∙ h l ∙ sym (before_lt d n g m l)
-    | inr l ↦ before_ge d n f m l ∙ sym (before_ge d n g m l)
-  ]
+pub before_same : {A : Type 0} (d : A) (f g : ℕ → A) (n : ℕ) → ((m : ℕ) → m < n → f m ≡ g m) → before d n f ≡ before d n g
+before_same d f g n h =
+    fun_ext (λ m. elim (lt_or_ge m n) [
+      | inl l ↦ before_lt d n f m l ∙ h m l ∙ sym (before_lt d n g m l)
+      | inr l ↦ before_ge d n f m l ∙ sym (before_ge d n g m l)
+    ])
 
+module _ {A : Type 0} (d : A) (F : (ℕ → A) → ℕ → A) where
   up_to_same : (f g n : ℕ) → n < f → n < g → up_to d F f n ≡ up_to d F g n
   up_to_same zero g n h k = absurd (omega arith)
   up_to_same (suc f) zero n h k = absurd (omega arith)
-  up_to_same (suc f) (suc g) n h k = ap (λ e. F e n) (fun_ext (λ m. before_same (λ m. up_to d F f m) (λ m. up_to d F g m) n m (λ l. up_to_same f g m (omega arith) (omega arith))))
+  up_to_same (suc f) (suc g) n h k = ap (λ e. F e n) (before_same d (λ m. up_to d F f m) (λ m. up_to d F g m) n (λ m l. up_to_same f g m (omega arith) (omega arith)))
 
   pub by_number_is : (n : ℕ) → by_number d F n ≡ F (before d n (λ m. by_number d F m)) n
   unfolding by_number
-  by_number_is n = ap (λ e. F e n) (fun_ext (λ m. before_same (λ m. up_to d F n m) (λ m. by_number d F m) n m (λ l. up_to_same n (suc m) m l (omega arith))))
+  by_number_is n = ap (λ e. F e n) (before_same d (λ m. up_to d F n m) (λ m. by_number d F m) n (λ m l. up_to_same n (suc m) m l (omega arith)))
 
 -- strong induction on the number
 pub from_earlier : (P : ℕ → Type 0) → ((n : ℕ) → ((m : ℕ) → m < n → P m) → P n) → (n : ℕ) → P n

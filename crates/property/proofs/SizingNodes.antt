@@ -1,46 +1,38 @@
 -- The size of a program's node, by its kind, from the sizes kept of the earlier ones.
-use Rattle.std.proofs.Common.{◌≡◌, ℕ, suc, ◌+◌, ◌*◌, ◌<◌, ◌≤◌, max, Bool, true, false, cond, ◌&&◌, ◌||◌, eqb, ltb, ◌⊎◌, List, [], ◌∷◌, length, get_or, set, sym, refl, ap, ◌∙◌, subst, ap₂, inl, inr, add-one, arith, get_or-set_other, get_or-set_same}
+use Rattle.std.proofs.Common.{zip, take, length-take-le, ◌≡◌, ℕ, ◌+◌, ◌*◌, ◌<◌, ◌≤◌, max, Bool, true, false, cond, ◌&&◌, ◌||◌, ltb, ◌⊎◌, List, [], ◌∷◌, length, get_or, set, sym, refl, ap, ◌∙◌, subst, ap₂, inl, inr, arith, get_or-set_other, get_or-set_same}
 use lib.ListN.{get_or-map}
-use Rattle.std.proofs.lemmas.Bool.{and_parts, and_from, ltb-true, lt-ltb}
+use Rattle.std.proofs.lemmas.List.{get_or_past, get_or-take}
+use Rattle.std.proofs.lemmas.Bool.{and_parts, ltb-true}
 use Rattle.property.specs.declared.node.Node.{Node}
 use Rattle.property.specs.declared.node.Node.TheVariants.{Nothing, Choice, Sequence, Both, Lap, All}
-use Rattle.property.specs.Checks.{every, names}
+use Rattle.property.specs.Checks.{names}
+use Rattle.std.specs.List.{list_all}
 use Rattle.property.specs.Meant.{meant, all_meant}
 use Rattle.property.specs.Nodes as N
 use Rattle.property.specs.Numbered.{before}
-use Rattle.property.specs.Sized.{LaidOut, Kept, MarksAlso, branches_at, counted, cut, marked_total, named_before, named_by, names_before}
-use Rattle.property.specs.Sizes.{by_branches, in_family, size, size_by, some_branch, weight}
-use Rattle.property.proofs.Families.{earlier_at}
+use Rattle.property.specs.Sized.{NamesEarlier, Kept, counted, cut, marked_sum}
+use Rattle.property.specs.Sizes.{in_family, size, size_by, total, weight}
+use Rattle.property.proofs.Families.{earlier_at, itself_in_family}
 use Rattle.property.proofs.Numbering.{before_lt, by_number_is, lt_or_ge}
-use Rattle.property.proofs.SizingSums.{cut_again, cut_lap, cut_product, cut_sum, total_cut}
+use Rattle.property.proofs.SizingSums.{cut_again, cut_lap, cut_product, cut_sum, cut_sum_left, marked_sum_is, marked_weight, total_cut}
 
-every_below : (n k : ℕ) (ms : List ℕ) → n ≤ k → every (λ m. ltb m n) ms ≡ true → every (λ m. ltb m k) ms ≡ true
-unfolding every
-every_below n k [] h e = refl
-every_below n k (m ∷ ms) h e =
-    let p = and_parts (ltb m n) _ e in
-    let lt : m < n = ltb-true m n p.0 in
-    and_from (ltb m k) _ (lt-ltb m k (omega arith)) (every_below n k ms h p.1)
-
-two_below : (n a b : ℕ) → every (λ m. ltb m n) (a ∷ b ∷ []) ≡ true → (a < n) × (b < n)
-unfolding every
+two_below : (n a b : ℕ) → list_all (λ m. ltb m n) (a ∷ b ∷ []) ≡ true → (a < n) × (b < n)
 two_below n a b e =
     let p = and_parts (ltb a n) _ e in
     let q = and_parts (ltb b n) true p.1 in
     (ltb-true a n p.0, ltb-true b n q.0)
 
-one_below : (n a : ℕ) → every (λ m. ltb m n) (a ∷ []) ≡ true → a < n
-unfolding every
+one_below : (n a : ℕ) → list_all (λ m. ltb m n) (a ∷ []) ≡ true → a < n
 one_below n a e = ltb-true a n (and_parts (ltb a n) true e).0
 
 -- what a node counts, from a size that is kept alike
-weighed : (file : List ℕ) (x : Node) (a b : ℕ) → (((bs : List (ℕ × ℕ)) → meant file x ≡ N.Choice bs → ⊥) → cut a ≡ cut b) → cut (counted x a) ≡ cut (counted x b)
-weighed file Nothing a b h = h (λ bs e. let z : ◌≡◌ {A = ℕ} 0 1 = cc in omega arith)
-weighed file (Choice start count) a b h = refl
-weighed file (Sequence c d) a b h = h (λ bs e. let z : ◌≡◌ {A = ℕ} 0 1 = cc in omega arith)
-weighed file (Both c d) a b h = h (λ bs e. let z : ◌≡◌ {A = ℕ} 0 1 = cc in omega arith)
-weighed file (Lap c) a b h = h (λ bs e. let z : ◌≡◌ {A = ℕ} 0 1 = cc in omega arith)
-weighed file (All c d) a b h = h (λ bs e. let z : ◌≡◌ {A = ℕ} 0 1 = cc in omega arith)
+weighed : (x : Node) (a b : ℕ) → cut a ≡ cut b → cut (counted x a) ≡ cut (counted x b)
+weighed Nothing a b h = h
+weighed (Choice start count) a b h = refl
+weighed (Sequence c d) a b h = h
+weighed (Both c d) a b h = h
+weighed (Lap c) a b h = h
+weighed (All c d) a b h = h
 
 weight_meant : (file : List ℕ) (f : ℕ → ℕ) (m : ℕ) (x : Node) → counted x (f m) ≡ weight f m (meant file x)
 weight_meant file f m Nothing = refl
@@ -54,13 +46,9 @@ cut_cond : (b : Bool) (x y : ℕ) → cut x ≡ cut y → cut (cond b x 0) ≡ c
 cut_cond true x y e = e
 cut_cond false x y e = refl
 
-no_branches : (file : List ℕ) (test : ℕ → Bool) (x : Node) → ((start count : ℕ) → x ≡ Choice start count → ⊥) → by_branches test (meant file x) ≡ false
-no_branches file test Nothing h = refl
-no_branches file test (Choice start count) h = absurd (h start count refl)
-no_branches file test (Sequence c d) h = refl
-no_branches file test (Both c d) h = refl
-no_branches file test (Lap c) h = refl
-no_branches file test (All c d) h = refl
+pub or_none : (x : Bool) → x ≡ (x || false)
+or_none true = refl
+or_none false = refl
 
 pub and_none : (x y : Bool) → x ≡ (x || (y && false))
 and_none true y = refl
@@ -78,99 +66,80 @@ module _ (file : List ℕ) (nodes : List Node) where
       by_number_is 0 (λ sizes k. size_by (all_meant file nodes) sizes k (N.node (all_meant file nodes) k)) n
       ∙ ap (size_by (all_meant file nodes) (before 0 n (size (all_meant file nodes))) n) (node_meant n x e)
 
-  -- a node that is no Choice marks nothing
-  pub marks_none : (was : List Bool) (n : ℕ) → ((start count : ℕ) → get_or nodes n Nothing ≡ Choice start count → ⊥) → MarksAlso (named_by (all_meant file nodes) was n) was was
-  marks_none was n h m =
-      and_none (get_or was m false) (get_or was n false)
-      ∙ sym (ap (λ b. get_or was m false || (get_or was n false && b))
-      (ap (by_branches (λ k. eqb k m)) (node_meant n (get_or nodes n Nothing) refl) ∙ no_branches file (λ k. eqb k m) (get_or nodes n Nothing) h))
+  -- a Choice stands before the end
+  pub choice_within : (n start count : ℕ) → get_or nodes n Nothing ≡ Choice start count → n < length nodes
+  choice_within n start count e = elim (lt_or_ge n (length nodes)) [
+    | inl h ↦ h
+    | inr h ↦ let z : Nothing ≡ Choice start count = sym (get_or_past nodes n Nothing h) ∙ e in cc
+  ]
 
-  -- a marked Choice marks the nodes of its branches
-  pub marks_branches : (was marked : List Bool) (n start count : ℕ) → get_or nodes n Nothing ≡ Choice start count → get_or was n false ≡ true
-      → MarksAlso (λ m. some_branch (λ k. eqb k m) (branches_at file start count)) was marked → MarksAlso (named_by (all_meant file nodes) was n) was marked
-  marks_branches was marked n start count e here also m =
-      also m
-      ∙ sym (ap₂ (λ x y. get_or was m false || (x && by_branches (λ k. eqb k m) y)) here (node_meant n (Choice start count) e))
+  -- the node after those whose sizes are kept
+  module _ (sizes : List ℕ) (kept : Kept (all_meant file nodes) sizes (length sizes)) where
+    abbrev known : ℕ → ℕ
+    known = before 0 (length sizes) (size (all_meant file nodes))
 
-  -- a node that is no Choice names no earlier one
-  pub marks_none_before : (was : List Bool) (n : ℕ) → ((start count : ℕ) → get_or nodes n Nothing ≡ Choice start count → ⊥) → MarksAlso (named_before (all_meant file nodes) was n) was was
-  marks_none_before was n h m =
-      and_none (get_or was m false) (get_or was n false)
-      ∙ sym (ap (λ b. get_or was m false || (get_or was n false && b))
-      (ap (by_branches (before false n (λ k. eqb k m))) (node_meant n (get_or nodes n Nothing) refl) ∙ no_branches file (before false n (λ k. eqb k m)) (get_or nodes n Nothing) h))
+    kept_known : (m : ℕ) → m < length sizes → get_or sizes m 0 ≡ cut (known m)
+    kept_known m h = kept m h ∙ ap cut (sym (before_lt 0 (length sizes) (size (all_meant file nodes)) m h))
 
-  -- a marked Choice marks the earlier nodes of its branches
-  pub marks_branches_before : (was marked : List Bool) (n start count : ℕ) → get_or nodes n Nothing ≡ Choice start count → get_or was n false ≡ true
-      → MarksAlso (names_before (branches_at file start count) n) was marked → MarksAlso (named_before (all_meant file nodes) was n) was marked
-  marks_branches_before was marked n start count e here also m =
-      also m
-      ∙ sym (ap₂ (λ x y. get_or was m false || (x && by_branches (before false n (λ k. eqb k m)) y)) here (node_meant n (Choice start count) e))
+    pub nothing_size : get_or nodes (length sizes) Nothing ≡ Nothing → 0 ≡ cut (size (all_meant file nodes) (length sizes))
+    nothing_size e = sym (ap cut (size_is (length sizes) Nothing e))
 
-  module _ (ok : LaidOut file nodes) where
-    named_below : (n : ℕ) (x : Node) → get_or nodes n Nothing ≡ x → every (λ m. ltb m n) (names (meant file x)) ≡ true
-    named_below n x e = sym (ap (λ y. every (λ m. ltb m n) (names y)) (node_meant n x e)) ∙ earlier_at (all_meant file nodes) ok.earlier n
+    module _ (start count : ℕ) (marked : List Bool) (is : get_or nodes (length sizes) Nothing ≡ Choice start count) (long : length sizes ≤ length nodes) (told : length sizes < length marked)
+        (marks : (m : ℕ) → m < length marked → get_or marked m false ≡ in_family (all_meant file nodes) (length sizes) m) where
+      abbrev counts : ℕ → ℕ
+      counts m = cond (in_family (all_meant file nodes) (length sizes) m) (weight known m (N.node (all_meant file nodes) m)) 0
 
-    pub branches_below : (n start count long : ℕ) → n ≤ long → get_or nodes n Nothing ≡ Choice start count
-        → every (λ m. ltb m long) (names (N.Choice (branches_at file start count))) ≡ true
-    branches_below n start count long h e = every_below n long (names (N.Choice (branches_at file start count))) h (named_below n (Choice start count) e)
+      earlier_counts : (m : ℕ) → m < length sizes → cut (marked_weight nodes sizes marked m) ≡ cut (counts m)
+      earlier_counts m l =
+          ap (λ b. cut (cond b (counted (get_or nodes m Nothing) (get_or sizes m 0)) 0)) (marks m (omega arith))
+          ∙ cut_cond (in_family (all_meant file nodes) (length sizes) m) _ _
+          (weighed (get_or nodes m Nothing) (get_or sizes m 0) (known m) (ap cut (kept_known m l) ∙ cut_again (known m))
+          ∙ ap cut (weight_meant file known m (get_or nodes m Nothing) ∙ sym (ap (weight known m) (node_meant m (get_or nodes m Nothing) refl))))
 
-    pub sequence_below : (n a b : ℕ) → get_or nodes n Nothing ≡ Sequence a b → (a < n) × (b < n)
-    sequence_below n a b e = two_below n a b (named_below n (Sequence a b) e)
+      own_count : 1 ≡ counts (length sizes)
+      own_count = sym (
+          ap (λ b. cond b (weight known (length sizes) (N.node (all_meant file nodes) (length sizes))) 0) (itself_in_family (all_meant file nodes) (length sizes))
+          ∙ ap (weight known (length sizes)) (node_meant (length sizes) (Choice start count) is))
 
-    pub product_below : (n a b : ℕ) → (get_or nodes n Nothing ≡ Both a b) ⊎ (get_or nodes n Nothing ≡ All a b) → (a < n) × (b < n)
-    product_below n a b (inl e) = two_below n a b (named_below n (Both a b) e)
-    product_below n a b (inr e) = two_below n a b (named_below n (All a b) e)
+      pub choice_size : cut (marked_sum (zip (zip nodes sizes) marked) + 1) ≡ cut (size (all_meant file nodes) (length sizes))
+      unfolding total
+      choice_size =
+          ap (λ t. cut (t + 1)) (marked_sum_is nodes sizes marked long (omega arith) ∙ total_cut (marked_weight nodes sizes marked) counts (length sizes) earlier_counts)
+          ∙ cut_sum_left (total counts (length sizes)) 1
+          ∙ ap (λ own. cut (total counts (length sizes) + own)) own_count
+          ∙ sym (ap cut (size_is (length sizes) (Choice start count) is))
 
-    pub lap_below : (n a : ℕ) → get_or nodes n Nothing ≡ Lap a → a < n
-    lap_below n a e = one_below n a (named_below n (Lap a) e)
+    module _ (ok : NamesEarlier (all_meant file nodes)) where
+      named_below : (x : Node) → get_or nodes (length sizes) Nothing ≡ x → list_all (λ m. ltb m (length sizes)) (names (meant file x)) ≡ true
+      named_below x e = sym (ap (λ y. list_all (λ m. ltb m (length sizes)) (names y)) (node_meant (length sizes) x e)) ∙ earlier_at (all_meant file nodes) ok (length sizes)
 
-    module _ (sizes : List ℕ) (n : ℕ) (kept : Kept (all_meant file nodes) sizes n) where
-      abbrev known : ℕ → ℕ
-      known = before 0 n (size (all_meant file nodes))
+      pub sequence_below : (a b : ℕ) → get_or nodes (length sizes) Nothing ≡ Sequence a b → (a < length sizes) × (b < length sizes)
+      sequence_below a b e = two_below (length sizes) a b (named_below (Sequence a b) e)
 
-      kept_known : (m : ℕ) → m < n → get_or sizes m 0 ≡ cut (known m)
-      kept_known m h = kept m h ∙ ap cut (sym (before_lt 0 n (size (all_meant file nodes)) m h))
+      pub product_below : (a b : ℕ) → (get_or nodes (length sizes) Nothing ≡ Both a b) ⊎ (get_or nodes (length sizes) Nothing ≡ All a b) → (a < length sizes) × (b < length sizes)
+      product_below a b (inl e) = two_below (length sizes) a b (named_below (Both a b) e)
+      product_below a b (inr e) = two_below (length sizes) a b (named_below (All a b) e)
 
-      pub nothing_size : get_or nodes n Nothing ≡ Nothing → 0 ≡ cut (size (all_meant file nodes) n)
-      nothing_size e = sym (ap cut (size_is n Nothing e))
+      pub lap_below : (a : ℕ) → get_or nodes (length sizes) Nothing ≡ Lap a → a < length sizes
+      lap_below a e = one_below (length sizes) a (named_below (Lap a) e)
 
-      pub sequence_size : (a b : ℕ) → get_or nodes n Nothing ≡ Sequence a b → cut (get_or sizes a 0 + get_or sizes b 0) ≡ cut (size (all_meant file nodes) n)
+      pub sequence_size : (a b : ℕ) → get_or nodes (length sizes) Nothing ≡ Sequence a b → cut (get_or sizes a 0 + get_or sizes b 0) ≡ cut (size (all_meant file nodes) (length sizes))
       sequence_size a b e =
-          let h = sequence_below n a b e in
-          ap₂ (λ x y. cut (x + y)) (kept_known a h.0) (kept_known b h.1) ∙ cut_sum (known a) (known b) ∙ sym (ap cut (size_is n (Sequence a b) e))
+          let h = sequence_below a b e in
+          ap₂ (λ x y. cut (x + y)) (kept_known a h.0) (kept_known b h.1) ∙ cut_sum (known a) (known b) ∙ sym (ap cut (size_is (length sizes) (Sequence a b) e))
 
-      known_product : (a b : ℕ) → (get_or nodes n Nothing ≡ Both a b) ⊎ (get_or nodes n Nothing ≡ All a b) → size (all_meant file nodes) n ≡ known a * known b
-      known_product a b (inl e) = size_is n (Both a b) e
-      known_product a b (inr e) = size_is n (All a b) e
+      known_product : (a b : ℕ) → (get_or nodes (length sizes) Nothing ≡ Both a b) ⊎ (get_or nodes (length sizes) Nothing ≡ All a b) → size (all_meant file nodes) (length sizes) ≡ known a * known b
+      known_product a b (inl e) = size_is (length sizes) (Both a b) e
+      known_product a b (inr e) = size_is (length sizes) (All a b) e
 
-      pub product_size : (a b : ℕ) → (get_or nodes n Nothing ≡ Both a b) ⊎ (get_or nodes n Nothing ≡ All a b) → cut (get_or sizes a 0 * get_or sizes b 0) ≡ cut (size (all_meant file nodes) n)
+      pub product_size : (a b : ℕ) → (get_or nodes (length sizes) Nothing ≡ Both a b) ⊎ (get_or nodes (length sizes) Nothing ≡ All a b)
+          → cut (get_or sizes a 0 * get_or sizes b 0) ≡ cut (size (all_meant file nodes) (length sizes))
       product_size a b e =
-          let h = product_below n a b e in
+          let h = product_below a b e in
           ap₂ (λ x y. cut (x * y)) (kept_known a h.0) (kept_known b h.1) ∙ cut_product (known a) (known b) ∙ sym (ap cut (known_product a b e))
 
-      pub lap_size : (a : ℕ) → get_or nodes n Nothing ≡ Lap a → max 1 (get_or sizes a 0) ≡ cut (size (all_meant file nodes) n)
-      lap_size a e = ap (max 1) (kept_known a (lap_below n a e)) ∙ cut_lap (known a) ∙ sym (ap cut (size_is n (Lap a) e))
-
-      pub choice_size : (start count : ℕ) (marked : List Bool) → get_or nodes n Nothing ≡ Choice start count
-          → ((m : ℕ) → get_or marked m false ≡ in_family (all_meant file nodes) n m) → cut (marked_total nodes sizes marked (n + 1)) ≡ cut (size (all_meant file nodes) n)
-      choice_size start count marked e marks =
-          ap (λ k. cut (marked_total nodes sizes marked k)) (add-one n)
-          ∙ total_cut (λ m. cond (get_or marked m false) (counted (get_or nodes m Nothing) (get_or sizes m 0)) 0)
-          (λ m. cond (in_family (all_meant file nodes) n m) (weight known m (N.node (all_meant file nodes) m)) 0) (suc n)
-          (λ m l. ap (λ b. cut (cond b (counted (get_or nodes m Nothing) (get_or sizes m 0)) 0)) (marks m)
-          ∙ cut_cond (in_family (all_meant file nodes) n m) _ _ (alike m l))
-          ∙ sym (ap cut (size_is n (Choice start count) e))
-        where
-          known_size : (m : ℕ) → m < suc n → ((bs : List (ℕ × ℕ)) → meant file (get_or nodes m Nothing) ≡ N.Choice bs → ⊥) → cut (get_or sizes m 0) ≡ cut (known m)
-          known_size m l other = elim (lt_or_ge m n) [
-            | inl h ↦ ap cut (kept_known m h) ∙ cut_again (known m)
-            | inr h ↦ let at : m ≡ n = omega arith in absurd (other (branches_at file start count) (ap (λ k. meant file (get_or nodes k Nothing)) at ∙ ap (meant file) e))
-          ]
-
-          alike : (m : ℕ) → m < suc n → cut (counted (get_or nodes m Nothing) (get_or sizes m 0)) ≡ cut (weight known m (N.node (all_meant file nodes) m))
-          alike m l =
-              weighed file (get_or nodes m Nothing) (get_or sizes m 0) (known m) (known_size m l)
-              ∙ ap cut (weight_meant file known m (get_or nodes m Nothing) ∙ sym (ap (weight known m) (node_meant m (get_or nodes m Nothing) refl)))
+      pub lap_size : (a : ℕ) → get_or nodes (length sizes) Nothing ≡ Lap a → max (get_or sizes a 0) 1 ≡ cut (size (all_meant file nodes) (length sizes))
+      lap_size a e = ap (λ s. max s 1) (kept_known a (lap_below a e)) ∙ cut_lap (known a) ∙ sym (ap cut (size_is (length sizes) (Lap a) e))
 
 -- the sizes of one node more are in place
 pub kept_more : (nodes : List N.Node) (sizes : List ℕ) (n own : ℕ) → n < length sizes → own ≡ cut (size nodes n) → Kept nodes sizes n → Kept nodes (set sizes n own) (n + 1)
@@ -180,3 +149,9 @@ kept_more nodes sizes n own h e kept m l = elim (lt_or_ge m n) [
       let at : n ≡ m = omega arith in
       subst (λ j. get_or (set sizes n own) j 0 ≡ cut (size nodes j)) at (get_or-set_same sizes n own 0 h ∙ e)
 ]
+
+-- the first sizes alone
+pub kept_first : (nodes : List N.Node) (sizes : List ℕ) (n : ℕ) → n ≤ length sizes → Kept nodes sizes n → Kept nodes (take n sizes) (length (take n sizes))
+kept_first nodes sizes n h kept m l =
+    let k : m < n = omega (arith, length-take-le n sizes h) in
+    get_or-take n sizes m 0 k ∙ kept m k

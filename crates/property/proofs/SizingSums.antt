@@ -1,9 +1,8 @@
 -- Sizes as they are kept, added and multiplied.
-use Rattle.std.proofs.Common.{◌≡◌, ℕ, zero, suc, ◌+◌, ◌*◌, ◌<◌, ◌≤◌, max, Bool, true, false, List, get_or, sym, refl, ap, ◌∙◌, ap₂, inl, inr, add-zero, mul_comm, mul-zero, zero-mul, mul-suc, add-one, arith}
-use Rattle.std.proofs.lemmas.Bool.{cond-true, cond-false}
+use Rattle.std.proofs.Common.{cond, map, filter, fold, zip, [], ◌∷◌, length, ◌≡◌, ℕ, zero, suc, ◌+◌, ◌*◌, ◌<◌, ◌≤◌, max, Bool, true, false, List, get_or, sym, refl, ap, ◌∙◌, ap₂, inl, inr, mul_comm, mul-zero, zero-mul, mul-suc, arith}
 use Rattle.property.specs.declared.node.Node.{Node}
 use Rattle.property.specs.declared.node.Node.TheVariants.{Nothing}
-use Rattle.property.specs.Sized.{most_size, cut, counted, marked_total}
+use Rattle.property.specs.Sized.{most_size, cut, counted, marked_sum}
 use Rattle.property.specs.Sizes.{total}
 use Rattle.property.proofs.Numbering.{lt_or_ge}
 
@@ -16,7 +15,7 @@ cut_sum a b = omega arith
 pub cut_sum_left : (a b : ℕ) → cut (cut a + b) ≡ cut (a + b)
 cut_sum_left a b = omega arith
 
-pub cut_lap : (a : ℕ) → max 1 (cut a) ≡ cut (max 1 a)
+pub cut_lap : (a : ℕ) → max (cut a) 1 ≡ cut (max 1 a)
 cut_lap a = omega arith
 
 large : (x y : ℕ) → most_size + 1 ≤ x → 1 ≤ y → cut (x * y) ≡ most_size + 1
@@ -42,21 +41,38 @@ unfolding total
 total_cut f g zero h = refl
 total_cut f g (suc n) h = sym (cut_sum (total f n) (f n)) ∙ ap₂ (λ x y. cut (x + y)) (total_cut f g n (λ m l. h m (omega arith))) (h n (omega arith)) ∙ cut_sum (total g n) (g n)
 
-module _ (nodes : List Node) (sizes : List ℕ) (marked : List Bool) (m : ℕ) where
-  pub marked_more : get_or marked m false ≡ true → cut (cut (marked_total nodes sizes marked m) + counted (get_or nodes m Nothing) (get_or sizes m 0)) ≡ cut (marked_total nodes sizes marked (m + 1))
-  unfolding total
-  marked_more e =
-      let so_far : ℕ = marked_total nodes sizes marked m in
-      let own : ℕ = counted (get_or nodes m Nothing) (get_or sizes m 0) in
-      cut_sum_left so_far own
-      ∙ ap (λ w. cut (so_far + w)) (sym (cond-true (get_or marked m false) own 0 e))
-      ∙ ap (λ k. cut (marked_total nodes sizes marked k)) (sym (add-one m))
+-- a sum from the front
+total_front : (f : ℕ → ℕ) (n : ℕ) → total f (suc n) ≡ f 0 + total (λ k. f (suc k)) n
+unfolding total
+total_front f zero = omega arith
+total_front f (suc n) = omega (arith, total_front f n)
 
-  pub marked_skip : get_or marked m false ≡ false → cut (marked_total nodes sizes marked m) ≡ cut (marked_total nodes sizes marked (m + 1))
-  unfolding total
-  marked_skip e =
-      let so_far : ℕ = marked_total nodes sizes marked m in
-      let own : ℕ = counted (get_or nodes m Nothing) (get_or sizes m 0) in
-      ap cut (sym (add-zero so_far))
-      ∙ ap (λ w. cut (so_far + w)) (sym (cond-false (get_or marked m false) own 0 e))
-      ∙ ap (λ k. cut (marked_total nodes sizes marked k)) (sym (add-one m))
+-- what a node of a number counts, if it is marked
+abbrev pub marked_weight : List Node → List ℕ → List Bool → ℕ → ℕ
+marked_weight nodes sizes marked m = cond (get_or marked m false) (counted (get_or nodes m Nothing) (get_or sizes m 0)) 0
+
+abbrev weighed : List Node → List ℕ → List Bool → List ℕ
+weighed nodes sizes marked = map (λ (x : (Node × ℕ) × Bool). counted x.0.0 x.0.1) (filter (λ (x : (Node × ℕ) × Bool). x.1) (zip (zip nodes sizes) marked))
+
+abbrev summed : ℕ → List ℕ → ℕ
+summed a ws = fold (λ total own. cut (total + own)) a ws
+
+sum_from : (a : ℕ) (nodes : List Node) (sizes : List ℕ) (marked : List Bool) → length sizes ≤ length nodes → length sizes ≤ length marked
+    → summed (cut a) (weighed nodes sizes marked) ≡ cut (a + total (marked_weight nodes sizes marked) (length sizes))
+unfolding total
+sum_from a [] [] marked h k = omega arith
+sum_from a [] (s ∷ ss) marked h k = absurd (omega arith)
+sum_from a (n ∷ ns) [] marked h k = omega arith
+sum_from a (n ∷ ns) (s ∷ ss) [] h k = absurd (omega arith)
+sum_from a (n ∷ ns) (s ∷ ss) (true ∷ ms) h k =
+    ap (λ b. summed b (weighed ns ss ms)) (cut_sum_left a (counted n s))
+    ∙ sum_from (a + counted n s) ns ss ms (omega arith) (omega arith)
+    ∙ ap cut (omega (arith, total_front (marked_weight (n ∷ ns) (s ∷ ss) (true ∷ ms)) (length ss)))
+sum_from a (n ∷ ns) (s ∷ ss) (false ∷ ms) h k =
+    sum_from a ns ss ms (omega arith) (omega arith)
+    ∙ ap cut (omega (arith, total_front (marked_weight (n ∷ ns) (s ∷ ss) (false ∷ ms)) (length ss)))
+
+-- the marked nodes count together what those of them count that have a size
+pub marked_sum_is : (nodes : List Node) (sizes : List ℕ) (marked : List Bool) → length sizes ≤ length nodes → length sizes ≤ length marked
+    → marked_sum (zip (zip nodes sizes) marked) ≡ cut (total (marked_weight nodes sizes marked) (length sizes))
+marked_sum_is nodes sizes marked h k = sum_from 0 nodes sizes marked h k ∙ ap cut (omega arith)

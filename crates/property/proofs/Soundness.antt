@@ -7,7 +7,8 @@ use Rattle.records.specs.declared.fault.ReadFault.{ReadFault}
 use Rattle.records.specs.Readings.{Item, reading}
 use Rattle.property.specs.declared.fault.PropertyFault.{PropertyFault}
 use Rattle.property.specs.declared.fault.PropertyFault.TheVariants.{Declaration, TooManyNodes, NotEarlier, WrongKind, BranchLetter, OpenLap, NoProperty}
-use Rattle.property.specs.Checks.{Parts, alphabet_of, barred_next, names, every, named_earlier, named_kinds, letters_in_order, lap_closes, most_nodes, node_fault, with_letter, with_node, unless, judge, then_judge, judge_all, has_property, at_end, no_parts, checked}
+use Rattle.property.specs.Checks.{Parts, alphabet_of, barred_next, names, named_earlier, named_kinds, letters_in_order, lap_closes, most_nodes, node_fault, with_letter, with_node, unless, judge, then_judge, judge_all, has_property, at_end, no_parts, checked}
+use Rattle.std.specs.List.{list_all}
 use Rattle.property.specs.Nodes.{Node, Nothing, Choice, Sequence, Both, Lap, All, node, node_of, is_loop}
 use Rattle.property.specs.Sized.{NamesEarlier}
 use Rattle.property.specs.Sound.{PlainEarlier, LoopEarlier, SoundBranches, SoundNode, Sound}
@@ -19,18 +20,15 @@ EachSound alphabet nodes = (n : ℕ) → n < length nodes → SoundNode alphabet
 
 -- a sound node names only earlier ones
 branches_earlier : (alphabet : List ℕ) (nodes : List Node) (n k : ℕ) (bs : List (ℕ × ℕ)) → SoundBranches alphabet nodes n k bs
-    → every (λ m. ltb m n) (map (λ (b : ℕ × ℕ). b.1) bs) ≡ true
-unfolding every
+    → list_all (λ m. ltb m n) (map (λ (b : ℕ × ℕ). b.1) bs) ≡ true
 branches_earlier alphabet nodes n k [] h = refl
 branches_earlier alphabet nodes n k (b ∷ bs) h =
     and_from (ltb b.1 n) _ (lt-ltb b.1 n h.2.0) (branches_earlier alphabet nodes n (suc b.0) bs h.3)
 
-two_earlier : (n a b : ℕ) → a < n → b < n → every (λ m. ltb m n) (a ∷ b ∷ []) ≡ true
-unfolding every
+two_earlier : (n a b : ℕ) → a < n → b < n → list_all (λ m. ltb m n) (a ∷ b ∷ []) ≡ true
 two_earlier n a b h k = and_from (ltb a n) _ (lt-ltb a n h) (and_from (ltb b n) true (lt-ltb b n k) refl)
 
-node_earlier : (alphabet : List ℕ) (nodes : List Node) (n : ℕ) (x : Node) → SoundNode alphabet nodes n x → every (λ m. ltb m n) (names x) ≡ true
-unfolding every
+node_earlier : (alphabet : List ℕ) (nodes : List Node) (n : ℕ) (x : Node) → SoundNode alphabet nodes n x → list_all (λ m. ltb m n) (names x) ≡ true
 node_earlier alphabet nodes n Nothing h = refl
 node_earlier alphabet nodes n (Choice bs) h = branches_earlier alphabet nodes n 0 bs h
 node_earlier alphabet nodes n (Sequence a b) h = two_earlier n a b h.0.0 h.1.0
@@ -67,12 +65,11 @@ module _ (alphabet : List ℕ) (nodes more : List Node) (n : ℕ) (within : n �
 -- a node that passes its checks is sound
 module _ (alphabet : List ℕ) (nodes : List Node) where
   branches_pass : (k : ℕ) (bs : List (ℕ × ℕ))
-      → every (λ m. ltb m (length nodes)) (map (λ (b : ℕ × ℕ). b.1) bs) ≡ true
-      → every (λ m. not (is_loop (node nodes m))) (map (λ (b : ℕ × ℕ). b.1) bs) ≡ true
+      → list_all (λ m. ltb m (length nodes)) (map (λ (b : ℕ × ℕ). b.1) bs) ≡ true
+      → list_all (λ m. not (is_loop (node nodes m))) (map (λ (b : ℕ × ℕ). b.1) bs) ≡ true
       → ascending_from k (map (λ (b : ℕ × ℕ). b.0) bs) ≡ true
-      → every (λ l. among l alphabet) (map (λ (b : ℕ × ℕ). b.0) bs) ≡ true
+      → list_all (λ l. among l alphabet) (map (λ (b : ℕ × ℕ). b.0) bs) ≡ true
       → SoundBranches alphabet nodes (length nodes) k bs
-  unfolding every
   branches_pass k [] earlier plain ascending known = tt
   branches_pass k (b ∷ bs) earlier plain ascending known =
       let e = and_parts (ltb b.1 (length nodes)) _ earlier in
@@ -81,9 +78,8 @@ module _ (alphabet : List ℕ) (nodes : List Node) where
       let l = and_parts (among b.0 alphabet) _ known in
       (leb-true k b.0 a.0, l.0, (ltb-true b.1 (length nodes) e.0, not-true _ p.0), branches_pass (suc b.0) bs e.1 p.1 a.1 l.1)
 
-  two_pass : (test : ℕ → Bool) (a b : ℕ) → every (λ m. ltb m (length nodes)) (a ∷ b ∷ []) ≡ true → every test (a ∷ b ∷ []) ≡ true
+  two_pass : (test : ℕ → Bool) (a b : ℕ) → list_all (λ m. ltb m (length nodes)) (a ∷ b ∷ []) ≡ true → list_all test (a ∷ b ∷ []) ≡ true
       → ((a < length nodes) × (test a ≡ true)) × ((b < length nodes) × (test b ≡ true))
-  unfolding every
   two_pass test a b earlier tested =
       let e = and_parts (ltb a (length nodes)) _ earlier in
       let f = and_parts (ltb b (length nodes)) true e.1 in
@@ -91,7 +87,7 @@ module _ (alphabet : List ℕ) (nodes : List Node) where
       let q = and_parts (test b) true p.1 in
       ((ltb-true a (length nodes) e.0, p.0), (ltb-true b (length nodes) f.0, q.0))
 
-  two_plain : (a b : ℕ) → every (λ m. ltb m (length nodes)) (a ∷ b ∷ []) ≡ true → every (λ m. not (is_loop (node nodes m))) (a ∷ b ∷ []) ≡ true
+  two_plain : (a b : ℕ) → list_all (λ m. ltb m (length nodes)) (a ∷ b ∷ []) ≡ true → list_all (λ m. not (is_loop (node nodes m))) (a ∷ b ∷ []) ≡ true
       → PlainEarlier nodes (length nodes) a × PlainEarlier nodes (length nodes) b
   two_plain a b earlier plain =
       let r = two_pass (λ m. not (is_loop (node nodes m))) a b earlier plain in
@@ -99,7 +95,6 @@ module _ (alphabet : List ℕ) (nodes : List Node) where
 
   node_passes : (x : Node) → named_earlier nodes x ≡ true → named_kinds nodes x ≡ true → letters_in_order alphabet x ≡ true → lap_closes nodes x ≡ true
       → SoundNode alphabet nodes (length nodes) x
-  unfolding every
   node_passes Nothing earlier kinds letters closing = tt
   node_passes (Choice bs) earlier kinds letters closing =
       let p = and_parts (ascending_from 0 (map (λ (b : ℕ × ℕ). b.0) bs)) _ letters in

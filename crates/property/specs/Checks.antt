@@ -1,6 +1,7 @@
 -- What a file makes: its declared letters and its nodes, or the fault that it gets. Records are checked in file order,
 -- each by rising number of its fault.
 use Rattle.std.specs.Prelude.{ℕ, suc, ◌-◌, Bool, true, false, cond, not, ◌&&◌, ◌||◌, ltb, List, [], ◌∷◌, ◌++◌, map, length, Some, None, Ok, Err, Option, Result, ◌==◌, nat_le, nat_lt, slice_index}
+use Rattle.std.specs.List.{list_all}
 use Rattle.letters.specs.Alphabets.{among, bare, barred, ascending_from}
 use Rattle.records.specs.declared.fault.ReadFault.{ReadFault}
 use Rattle.records.specs.Readings.{Item, reading}
@@ -39,13 +40,9 @@ names (Both a b) = a ∷ b ∷ []
 names (Lap a) = a ∷ []
 names (All a b) = a ∷ b ∷ []
 
-unfoldable pub every : (ℕ → Bool) → List ℕ → Bool
-every test [] = true
-every test (n ∷ ns) = test n && every test ns
-
 -- the nodes named are earlier
 abbrev pub named_earlier : List Node → Node → Bool
-named_earlier nodes n = every (λ m. ltb m (length nodes)) (names n)
+named_earlier nodes n = list_all (λ m. ltb m (length nodes)) (names n)
 
 abbrev pub same : Bool → Bool → Bool
 same true b = b
@@ -61,7 +58,7 @@ names_loops (Lap a) = false
 names_loops (All a b) = true
 
 abbrev pub named_kinds : List Node → Node → Bool
-named_kinds nodes n = every (λ m. same (names_loops n) (is_loop (node nodes m))) (names n)
+named_kinds nodes n = list_all (λ m. same (names_loops n) (is_loop (node nodes m))) (names n)
 
 -- the letters of a node's branches
 abbrev pub branch_letters : Node → List ℕ
@@ -74,7 +71,7 @@ branch_letters (All a b) = []
 
 -- strictly ascending, and in the alphabet
 abbrev pub letters_in_order : List ℕ → Node → Bool
-letters_in_order alphabet n = ascending_from 0 (branch_letters n) && every (λ l. among l alphabet) (branch_letters n)
+letters_in_order alphabet n = ascending_from 0 (branch_letters n) && list_all (λ l. among l alphabet) (branch_letters n)
 
 -- a Lap stands over a node that closes
 abbrev pub lap_closes : List Node → Node → Bool

@@ -1,5 +1,6 @@
 -- Which nodes close, by their structure.
-use Rattle.std.specs.Prelude.{ℕ, Bool, true, false, ◌&&◌, ◌||◌, List, [], ◌∷◌, ◌==◌}
+use Rattle.std.specs.Prelude.{ℕ, Bool, false, ◌&&◌, ◌||◌, List, ◌==◌}
+use Rattle.std.specs.List.{list_all}
 use Rattle.letters.specs.Letters.{end}
 use Rattle.property.specs.Nodes.{Node, Nothing, Choice, Sequence, Both, Lap, All, node, is_nothing}
 use Rattle.property.specs.Numbered.{by_number}
@@ -9,8 +10,7 @@ abbrev pub branch_closes : List Node → (ℕ → Bool) → ℕ × ℕ → Bool
 branch_closes nodes closing b = closing b.1 || (b.0 == end && is_nothing (node nodes b.1))
 
 unfoldable pub each_closes : List Node → (ℕ → Bool) → List (ℕ × ℕ) → Bool
-each_closes nodes closing [] = true
-each_closes nodes closing (b ∷ bs) = branch_closes nodes closing b && each_closes nodes closing bs
+each_closes nodes closing bs = list_all (branch_closes nodes closing) bs
 
 -- where `closing` says so of the nodes that it names
 abbrev pub closes_by : List Node → (ℕ → Bool) → Node → Bool

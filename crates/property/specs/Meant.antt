@@ -1,6 +1,7 @@
 -- The node that a program's node stands for, over the bytes of the file.
 use Rattle.std.specs.Prelude.{ℕ, ◌*◌, List, map, take, drop}
 use Rattle.records.specs.Records.{branch_bytes}
+use Rattle.property.specs.declared.listed.Listed.{Listed}
 use Rattle.property.specs.declared.node.Node.{Node}
 use Rattle.property.specs.declared.node.Node.TheVariants.{Nothing, Choice, Sequence, Both, Lap, All}
 use Rattle.property.specs.Nodes as N
@@ -15,3 +16,7 @@ meant file (All a b) = N.All a b
 
 abbrev pub all_meant : List ℕ → List Node → List N.Node
 all_meant file ns = map (meant file) ns
+
+-- the nodes of a list with its file
+abbrev pub listed : Listed → List N.Node
+listed l = all_meant l.file.now l.nodes.now

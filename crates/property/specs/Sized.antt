@@ -1,17 +1,17 @@
 -- What the sizes of a program's nodes are worked out from, and how they are kept.
-use Rattle.std.specs.Prelude.{◌≡◌, ℕ, ◌+◌, ◌*◌, ◌<◌, ◌≤◌, min, Bool, true, false, cond, ◌&&◌, ◌||◌, List, length, take, drop, nat_eq, nat_lt, slice_index, slice_index_or}
+use Rattle.std.specs.Prelude.{map, filter, fold, ◌≡◌, ℕ, ◌+◌, ◌*◌, ◌<◌, min, Bool, true, false, ◌&&◌, ◌||◌, List, length, take, drop, nat_eq, nat_lt, slice_index, slice_index_or}
 use Rattle.records.specs.Records.{branch_bytes}
 use Rattle.property.specs.declared.node.Node.{Node}
 use Rattle.property.specs.declared.node.Node.TheVariants.{Nothing, Choice, Sequence, Both, Lap, All}
-use Rattle.property.specs.Checks.{every, names, most_nodes}
-use Rattle.property.specs.Meant.{all_meant}
+use Rattle.property.specs.Checks.{names}
+use Rattle.std.specs.List.{list_all}
 use Rattle.property.specs.Nodes as N
 use Rattle.property.specs.Numbered.{before}
-use Rattle.property.specs.Sizes.{Family, in_family, some_branch, by_branches, total, size}
+use Rattle.property.specs.Sizes.{Family, in_family, some_branch, by_branches, size}
 
 -- each node names only earlier ones
 abbrev pub NamesEarlier : List N.Node → Type 0
-NamesEarlier nodes = (n : ℕ) → n < length nodes → every (λ m. nat_lt m n) (names (N.node nodes n)) ≡ true
+NamesEarlier nodes = (n : ℕ) → n < length nodes → list_all (λ m. nat_lt m n) (names (N.node nodes n)) ≡ true
 
 -- the test of a family tells exactly the relation
 abbrev pub FamilyTestIsExact : Type 0
@@ -31,11 +31,6 @@ cut n = min n (most_size + 1)
 abbrev pub branches_at : List ℕ → ℕ → ℕ → List (ℕ × ℕ)
 branches_at file start count = N.branches (take (branch_bytes * count) (drop start file))
 
--- what the nodes of a program have whose sizes are worked out
-pub record LaidOut (file : List ℕ) (nodes : List Node) : Type 0 where
-  pub few : length nodes ≤ most_nodes
-  pub earlier : NamesEarlier (all_meant file nodes)
-
 -- the sizes of the nodes before n stand in a list
 abbrev pub Kept : List N.Node → List ℕ → ℕ → Type 0
 Kept nodes sizes n = (m : ℕ) → m < n → slice_index sizes m ≡ cut (size nodes m)
@@ -43,10 +38,6 @@ Kept nodes sizes n = (m : ℕ) → m < n → slice_index sizes m ≡ cut (size n
 -- the nodes that a test tells are marked too, and no others
 abbrev pub MarksAlso : (ℕ → Bool) → List Bool → List Bool → Type 0
 MarksAlso more was marked = (m : ℕ) → slice_index_or marked m false ≡ (slice_index_or was m false || more m)
-
--- the nodes that the branches of n name, if n is marked
-abbrev pub named_by : List N.Node → List Bool → ℕ → ℕ → Bool
-named_by nodes marked n m = slice_index_or marked n false && by_branches (λ k. nat_eq k m) (N.node nodes n)
 
 -- some branch names m, which is before `end`
 abbrev pub names_before : List (ℕ × ℕ) → ℕ → ℕ → Bool
@@ -65,6 +56,6 @@ counted (Both a b) own = own
 counted (Lap a) own = own
 counted (All a b) own = own
 
--- what the marked nodes before n count together
-abbrev pub marked_total : List Node → List ℕ → List Bool → ℕ → ℕ
-marked_total nodes sizes marked n = total (λ m. cond (slice_index_or marked m false) (counted (slice_index_or nodes m Nothing) (slice_index sizes m)) 0) n
+-- what the marked nodes count together, where each node has its size and its mark beside it
+abbrev pub marked_sum : List ((Node × ℕ) × Bool) → ℕ
+marked_sum xs = fold (λ total own. cut (total + own)) 0 (map (λ (x : (Node × ℕ) × Bool). counted x.0.0 x.0.1) (filter (λ (x : (Node × ℕ) × Bool). x.1) xs))

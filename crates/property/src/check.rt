@@ -3,24 +3,25 @@ ghost use Rattle.letters.specs.Alphabets.{bare};
 ghost use Rattle.records.specs.Records.{kind_of, body_of, suits, header_bytes, branch_bytes};
 ghost use Rattle.records.specs.Readers.{item_of};
 ghost use Rattle.records.specs.Readings.{reading};
-ghost use Rattle.property.specs.Checks.{every, names, named_earlier, named_kinds, letters_in_order, lap_closes, node_fault, barred_next, judge, has_property, checked};
+ghost use Rattle.property.specs.Checks.{names, named_earlier, named_kinds, letters_in_order, lap_closes, node_fault, barred_next, judge, has_property, checked};
+ghost use Rattle.std.specs.List.{list_all};
 ghost use Rattle.property.specs.Closing.{closes_by};
 ghost use Rattle.property.specs.Drafts.{declared_in, parts_of, parts, with_parts, refused, Kept};
-ghost use Rattle.property.specs.Meant.{meant, all_meant};
+ghost use Rattle.property.specs.Meant.{meant, listed};
 ghost use Rattle.property.specs.Nodes as N;
 ghost use Rattle.property.specs.Nodes.{node_of};
 ghost use Rattle.property.specs.Placed.{nodes_in, closing_in, closings, last_offset, Emptied, answer, AlphabetAfter, PlaceAfter};
 
-use crate::branches;
-use crate::branches::{branches_at, two_bytes};
+use crate::branches::{branches_at, first_out};
 use crate::declared::Declared;
 use crate::fault::PropertyFault;
-use crate::named::{names_closing, names_loop};
+use crate::listed::Listed;
+use crate::listed::closing::lap_closes;
 use crate::node::{MOST_NODES, Node};
 use crate::place::Nodes;
 use letters::alphabet::Alphabet;
 use letters::letter::Letter;
-use records::body::{BRANCH_BYTES, branch_count};
+use records::body::{branch_count, two_bytes};
 use records::reader::{HEADER_BYTES, Reader};
 use records::record::Record;
 
@@ -34,113 +35,64 @@ fn node_of(item: Record, at: usize) -> Node
     match item {
         Record::Letter(_) | Record::Nothing(_) => Node::Nothing,
         Record::Choice(body) => Node::Choice(at + HEADER_BYTES, branch_count(body)),
-        Record::Sequence(body) => Node::Sequence(two_bytes(body, 0), two_bytes(body, 2)),
-        Record::Both(body) => Node::Both(two_bytes(body, 0), two_bytes(body, 2)),
-        Record::Lap(body) => Node::Lap(two_bytes(body, 0)),
-        Record::All(body) => Node::All(two_bytes(body, 0), two_bytes(body, 2)),
+        Record::Sequence(body) => Node::Sequence(
+            two_bytes(body[0], body[1]),
+            two_bytes(body[2], body[3]),
+        ),
+        Record::Both(body) => Node::Both(two_bytes(body[0], body[1]), two_bytes(body[2], body[3])),
+        Record::Lap(body) => Node::Lap(two_bytes(body[0], body[1])),
+        Record::All(body) => Node::All(two_bytes(body[0], body[1]), two_bytes(body[2], body[3])),
     }
 }
 
-/// Whether a node names nodes before `count` alone.
-fn names_earlier(file: &[u8], count: usize, node: Node) -> bool
-    ensures { result ≡ every (λ m. nat_lt m count) (names (meant file.now node)) }
-{
-    match node {
-        Node::Nothing => true,
-        Node::Choice(start, branches) => {
-            branches::earlier(branches_at(file, start, branches), count)
+impl Listed<'_> {
+    /// Whether the letters of a Choice ascend and are in the alphabet of the letters declared.
+    fn letters_in_order(&self, declared: &[Letter], node: Node) -> bool
+        ensures { result ≡ letters_in_order (declared.now ++ bare) (meant self.now.file.now node) }
+    {
+        match node {
+            Node::Choice(start, count) => {
+                first_out(declared, branches_at(self.file, start, count)).is_none()
+            }
+            _ => true,
         }
-        Node::Sequence(a, b) | Node::Both(a, b) | Node::All(a, b) => a < count && b < count,
-        Node::Lap(a) => a < count,
     }
-}
 
-/// Whether an All names nodes of kinds 6 and 7 alone, and any other node those of kinds 2 to 5.
-fn names_kinds(file: &[u8], nodes: &[Node], node: Node) -> bool
-    ensures { result ≡ named_kinds (all_meant file.now nodes.now) (meant file.now node) }
-{
-    match node {
-        Node::Nothing => true,
-        Node::Choice(start, count) => branches::plain(nodes, branches_at(file, start, count)),
-        Node::Sequence(a, b) | Node::Both(a, b) => {
-            !names_loop(nodes, a) && !names_loop(nodes, b)
+    /// Whether a node passes the checks after the earlier ones.
+    fn check_node(
+        &self,
+        closing: &[bool],
+        declared: &[Letter],
+        node: Node,
+        at: usize,
+    ) -> Result<(), PropertyFault>
+        requires { Kept (listed self.now) closing.now }
+        ensures { result ≡ refused (node_fault (parts declared.now (listed self.now)) (meant self.now.file.now node) at) }
+    {
+        if self.nodes.len() >= MOST_NODES {
+            return Err(PropertyFault::TooManyNodes(at));
         }
-        Node::Lap(a) => !names_loop(nodes, a),
-        Node::All(a, b) => names_loop(nodes, a) && names_loop(nodes, b),
-    }
-}
-
-/// Whether the letters of a Choice ascend and are in the alphabet of the letters declared.
-fn letters_in_order(file: &[u8], declared: &[Letter], node: Node) -> bool
-    ensures { result ≡ letters_in_order (declared.now ++ bare) (meant file.now node) }
-{
-    match node {
-        Node::Choice(start, count) => {
-            branches::first_out(declared, branches_at(file, start, count)).is_none()
+        if !self.names_earlier(node) {
+            return Err(PropertyFault::NotEarlier(at));
         }
-        _ => true,
-    }
-}
-
-/// Whether a Lap stands over a node that closes.
-fn lap_closes(closing: &[bool], node: Node) -> bool
-    ensures { (file : List ℕ) (nodes : List N.Node) → closing.now ≡ closings nodes → named_earlier nodes (meant file node) ≡ true → result ≡ lap_closes nodes (meant file node) }
-{
-    match node {
-        Node::Lap(a) => names_closing(closing, a),
-        _ => true,
-    }
-}
-
-/// Whether a node closes, where `closing` says so of the earlier nodes.
-fn closes(file: &[u8], nodes: &[Node], closing: &[bool], node: Node) -> bool
-    ensures { result ≡ closes_by (all_meant file.now nodes.now) (λ m. slice_index_or closing.now m false) (meant file.now node) }
-{
-    match node {
-        Node::Choice(start, count) => {
-            branches::each_closes(nodes, closing, branches_at(file, start, count))
+        if !self.names_kinds(node) {
+            return Err(PropertyFault::WrongKind(at));
         }
-        Node::Sequence(_, b) => names_closing(closing, b),
-        Node::Both(a, b) => names_closing(closing, a) || names_closing(closing, b),
-        Node::Nothing | Node::Lap(_) | Node::All(_, _) => false,
+        if !self.letters_in_order(declared, node) {
+            return Err(PropertyFault::BranchLetter(at));
+        }
+        if !lap_closes(closing, node) {
+            return Err(PropertyFault::OpenLap(at));
+        }
+        Ok(())
     }
-}
-
-/// Whether a node passes the checks after the earlier ones.
-fn check_node(
-    file: &[u8],
-    place: &Nodes,
-    declared: &[Letter],
-    node: Node,
-    at: usize,
-) -> Result<(), PropertyFault>
-    requires { Kept (nodes_in file.now place.now) (closing_in place.now) }
-    ensures { result ≡ refused (node_fault (parts declared.now (nodes_in file.now place.now)) (meant file.now node) at) }
-{
-    let nodes = place.nodes();
-    if nodes.len() >= MOST_NODES {
-        return Err(PropertyFault::TooManyNodes(at));
-    }
-    if !names_earlier(file, nodes.len(), node) {
-        return Err(PropertyFault::NotEarlier(at));
-    }
-    if !names_kinds(file, nodes, node) {
-        return Err(PropertyFault::WrongKind(at));
-    }
-    if !letters_in_order(file, declared, node) {
-        return Err(PropertyFault::BranchLetter(at));
-    }
-    if !lap_closes(place.closing(), node) {
-        return Err(PropertyFault::OpenLap(at));
-    }
-    Ok(())
 }
 
 /// Whether a byte may not be declared next.
 fn is_barred_next(place: &Nodes, declared: &Declared, byte: Letter) -> bool
     ensures { (file : List ℕ) → result ≡ barred_next (parts_of file declared.now place.now) byte }
 {
-    place.nodes().len() > 0 || declared.bars(byte)
+    !place.nodes().is_empty() || declared.bars(byte)
 }
 
 /// Takes a record on: a letter, or a node.
@@ -167,8 +119,9 @@ fn take_on(
         return Ok(());
     }
     let node = node_of(item, at);
-    check_node(file, place, declared.letters(), node, at)?;
-    let closing = closes(file, place.nodes(), place.closing(), node);
+    let listed = place.listed(file);
+    listed.check_node(place.closing(), declared.letters(), node, at)?;
+    let closing = listed.closes(place.closing(), node);
     place.push(node, closing);
     Ok(())
 }
@@ -177,8 +130,7 @@ fn take_on(
 fn ends_in_loop(place: &Nodes) -> bool
     ensures { (file letters : List ℕ) → result ≡ has_property (parts letters (nodes_in file place.now)) }
 {
-    let nodes = place.nodes();
-    names_loop(nodes, nodes.len().saturating_sub(1))
+    matches!(place.nodes().last(), Some(Node::Lap(_) | Node::All(_, _)))
 }
 
 /// Reads a property file into an empty place.

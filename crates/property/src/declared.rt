@@ -7,6 +7,7 @@ use letters::letter::Letter;
 mod methods;
 
 /// The letters that a property has declared so far.
+// A fixed array and a count, since the core uses no heap.
 #[derive(Drop)]
 pub(crate) struct Declared {
     letters: [Letter; MOST_DECLARED],

@@ -1,12 +1,14 @@
 //! The marks of a family, for any list of nodes: a branch counts only where it names an earlier node.
 ghost use Rattle.std.specs.Prelude.{◌≡◌, ℕ, ◌<◌, ◌≤◌, false, length, ◌==◌, slice_index_or};
-ghost use Rattle.property.specs.Meant.{all_meant};
+ghost use Rattle.property.specs.Checks.{most_nodes};
+ghost use Rattle.property.specs.Meant.{listed};
 ghost use Rattle.property.specs.Nodes.{branches};
 ghost use Rattle.property.specs.Sized.{MarksAlso, named_before, names_before};
 ghost use Rattle.property.specs.Sizes.{in_family};
 
-use crate::branches::{branches_at, two_bytes};
-use crate::node::Node;
+use crate::branches::{branches_at, number_of};
+use crate::listed::Listed;
+use crate::node::{MOST_NODES, Node};
 use records::body::BRANCH_BYTES;
 
 /// Marks the nodes before `end` that the branches in a body name.
@@ -15,22 +17,9 @@ fn mark_branches_before(body: &[u8], end: usize, marked: &mut [bool])
     ensures { MarksAlso (names_before (branches body.now) end) marked.old marked.new }
 {
     for branch in body.chunks_exact(BRANCH_BYTES) {
-        let number = two_bytes(branch, 1);
+        let number = number_of(branch);
         if number < end {
             marked[number] = true;
-        }
-    }
-}
-
-/// Marks the earlier nodes that a node names by branches, if it is marked itself.
-pub(crate) fn mark_named_before(file: &[u8], nodes: &[Node], n: usize, marked: &mut [bool])
-    requires within { n < length nodes.now }
-    requires long { n < length marked.old }
-    ensures { MarksAlso (λ m. named_before (all_meant file.now nodes.now) marked.old n m) marked.old marked.new }
-{
-    if marked[n] {
-        if let Node::Choice(start, count) = nodes[n] {
-            mark_branches_before(branches_at(file, start, count), n, marked);
         }
     }
 }
@@ -45,15 +34,27 @@ fn mark_alone(n: usize, marked: &mut [bool])
     }
 }
 
-/// Marks the family of a node, and nothing else.
-pub(crate) fn mark_family_of(file: &[u8], nodes: &[Node], n: usize, marked: &mut [bool])
-    requires { length nodes.now ≤ length marked.old }
-    ensures { (m : ℕ) → m < length marked.new → slice_index_or marked.new m false ≡ in_family (all_meant file.now nodes.now) n m }
-{
-    mark_alone(n, marked);
-    if n < nodes.len() {
-        for m in (0..n + 1).rev() {
-            mark_named_before(file, nodes, m, marked);
+impl Listed<'_> {
+    /// Marks the earlier nodes that a node names by branches, if it is marked itself.
+    pub(crate) fn mark_named(&self, n: usize, marked: &mut [bool; MOST_NODES])
+        ensures { MarksAlso (λ m. named_before (listed self.now) marked.old n m) marked.old marked.new }
+    {
+        if let Some(Node::Choice(start, count)) = self.nodes.get(n) {
+            if marked[n] {
+                mark_branches_before(branches_at(self.file, *start, *count), n, marked);
+            }
+        }
+    }
+
+    /// Marks the family of a node, and nothing else.
+    pub(crate) fn mark_family(&self, n: usize, marked: &mut [bool; MOST_NODES])
+        ensures { (m : ℕ) → m < most_nodes → slice_index_or marked.new m false ≡ in_family (listed self.now) n m }
+    {
+        mark_alone(n, marked);
+        if n < self.nodes.len() {
+            for m in (0..n + 1).rev() {
+                self.mark_named(m, marked);
+            }
         }
     }
 }

@@ -6,7 +6,7 @@ pub mod check;
 mod declared;
 mod family;
 pub mod fault;
-mod named;
+mod listed;
 pub mod node;
 pub mod place;
 pub mod sizes;

@@ -8,6 +8,7 @@ mod methods;
 
 /// A lent place for the nodes of a property, which of them close, their sizes, and the offset of the file's last
 /// record. A size over `MOST_SIZE` stands as one above it.
+// Nodes, closings and sizes stand in arrays of their own, since each is lent to callers as one slice.
 #[derive(Drop)]
 pub struct Nodes {
     pub(crate) nodes: [Node; MOST_NODES],

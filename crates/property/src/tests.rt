@@ -4,6 +4,7 @@ use crate::node::Node;
 use crate::place::Nodes;
 use letters::alphabet::Alphabet;
 use letters::letter::{END, Letter, TICK};
+use letters::refusal::Report;
 use std::alloc::{AllocError, Global};
 use std::process::Abort;
 use std::test::Fail;
@@ -89,141 +90,109 @@ fn idle(rt: HostRuntime) {
 
 #[test]
 fn declarations(rt: HostRuntime) -> Result<(), Fail> {
-    let mut file = Vec::new(rt.alloc());
+    let heap = rt.alloc();
+    let mut file = Vec::new(heap);
     for byte in 0..30u8 {
         file.extend_from_slice(&letter(byte))?;
     }
-    let full = joined(rt.alloc(), file.as_slice(), &IDLE)?;
+    let full = joined(heap, file.as_slice(), &IDLE)?;
     takes(&rt, full.as_slice(), 30, 3, 161);
     file.extend_from_slice(&letter(30))?;
     refuses(&rt, file.as_slice(), PropertyFault::Declaration(150));
-    refuses_after(&rt, rt.alloc(), &letter(96), PropertyFault::Declaration(17))?;
+    refuses_after(&rt, heap, &letter(96), PropertyFault::Declaration(17))?;
     refuses(&rt, &letter(TICK), PropertyFault::Declaration(0));
-    let twice = joined(rt.alloc(), &letter(96), &letter(96))?;
+    let twice = joined(heap, &letter(96), &letter(96))?;
     refuses(&rt, twice.as_slice(), PropertyFault::Declaration(5));
     Ok(())
 }
 
 #[test]
 fn number_of_nodes(rt: HostRuntime) -> Result<(), Fail> {
-    let mut file = joined(rt.alloc(), &NOTHING, &choice(END, 0))?;
+    let heap = rt.alloc();
+    let mut file = joined(heap, &NOTHING, &choice(END, 0))?;
     for _ in 0..253 {
         file.extend_from_slice(&NOTHING)?;
     }
-    let full = joined(rt.alloc(), file.as_slice(), &lap(1))?;
+    let full = joined(heap, file.as_slice(), &lap(1))?;
     takes(&rt, full.as_slice(), 0, 256, 1023);
     file.extend_from_slice(&NOTHING)?;
-    let over = joined(rt.alloc(), file.as_slice(), &lap(1))?;
+    let over = joined(heap, file.as_slice(), &lap(1))?;
     refuses(&rt, over.as_slice(), PropertyFault::TooManyNodes(1027));
     Ok(())
 }
 
 #[test]
 fn names(rt: HostRuntime) -> Result<(), Fail> {
+    let heap = rt.alloc();
     refuses(&rt, &choice(END, 0), PropertyFault::NotEarlier(0));
-    refuses_after(&rt, rt.alloc(), &lap(3), PropertyFault::NotEarlier(17))?;
-    refuses_after(
-        &rt,
-        rt.alloc(),
-        &sequence(1, 3),
-        PropertyFault::NotEarlier(17),
-    )?;
-    refuses_after(
-        &rt,
-        rt.alloc(),
-        &sequence(4, 1),
-        PropertyFault::NotEarlier(17),
-    )?;
-    refuses_after(&rt, rt.alloc(), &lap(2), PropertyFault::WrongKind(17))?;
-    refuses_after(
-        &rt,
-        rt.alloc(),
-        &sequence(1, 2),
-        PropertyFault::WrongKind(17),
-    )?;
-    refuses_after(
-        &rt,
-        rt.alloc(),
-        &choice(END, 2),
-        PropertyFault::WrongKind(17),
-    )?;
-    refuses_after(&rt, rt.alloc(), &all(2, 1), PropertyFault::WrongKind(17))?;
-    let two_laps = joined(rt.alloc(), &IDLE, &all(2, 2))?;
+    refuses_after(&rt, heap, &lap(3), PropertyFault::NotEarlier(17))?;
+    refuses_after(&rt, heap, &sequence(1, 3), PropertyFault::NotEarlier(17))?;
+    refuses_after(&rt, heap, &sequence(4, 1), PropertyFault::NotEarlier(17))?;
+    refuses_after(&rt, heap, &lap(2), PropertyFault::WrongKind(17))?;
+    refuses_after(&rt, heap, &sequence(1, 2), PropertyFault::WrongKind(17))?;
+    refuses_after(&rt, heap, &choice(END, 2), PropertyFault::WrongKind(17))?;
+    refuses_after(&rt, heap, &all(2, 1), PropertyFault::WrongKind(17))?;
+    let two_laps = joined(heap, &IDLE, &all(2, 2))?;
     takes(&rt, two_laps.as_slice(), 0, 4, 17);
     Ok(())
 }
 
 #[test]
 fn branch_letters(rt: HostRuntime) -> Result<(), Fail> {
-    refuses_after(
-        &rt,
-        rt.alloc(),
-        &choice(97, 1),
-        PropertyFault::BranchLetter(17),
-    )?;
+    let heap = rt.alloc();
+    refuses_after(&rt, heap, &choice(97, 1), PropertyFault::BranchLetter(17))?;
     let equal = [6, 0, 3, 0, END, 0, 0, END, 0, 0];
-    refuses_after(&rt, rt.alloc(), &equal, PropertyFault::BranchLetter(17))?;
+    refuses_after(&rt, heap, &equal, PropertyFault::BranchLetter(17))?;
     let falling = [6, 0, 3, 0, END, 0, 0, TICK, 1, 0];
-    refuses_after(&rt, rt.alloc(), &falling, PropertyFault::BranchLetter(17))?;
+    refuses_after(&rt, heap, &falling, PropertyFault::BranchLetter(17))?;
     let rising = [6, 0, 3, 0, TICK, 1, 0, END, 0, 0, 2, 0, 6, 0, 3, 0];
-    let file = joined(rt.alloc(), &IDLE, &rising)?;
+    let file = joined(heap, &IDLE, &rising)?;
     takes(&rt, file.as_slice(), 0, 5, 27);
     Ok(())
 }
 
 #[test]
 fn closing_and_last(rt: HostRuntime) -> Result<(), Fail> {
-    refuses_after(&rt, rt.alloc(), &lap(0), PropertyFault::OpenLap(17))?;
+    let heap = rt.alloc();
+    refuses_after(&rt, heap, &lap(0), PropertyFault::OpenLap(17))?;
     refuses(&rt, &[], PropertyFault::NoProperty(0));
-    refuses_after(
-        &rt,
-        rt.alloc(),
-        &choice(END, 0),
-        PropertyFault::NoProperty(24),
-    )?;
-    let first_open = joined(rt.alloc(), &sequence(1, 0), &lap(3))?;
-    refuses_after(
-        &rt,
-        rt.alloc(),
-        first_open.as_slice(),
-        PropertyFault::OpenLap(25),
-    )
+    refuses_after(&rt, heap, &choice(END, 0), PropertyFault::NoProperty(24))?;
+    let first_open = joined(heap, &sequence(1, 0), &lap(3))?;
+    refuses_after(&rt, heap, first_open.as_slice(), PropertyFault::OpenLap(25))
 }
 
 /// Expects a report.
 fn reports(rt: &impl Abort, file: &[u8], layer: u8, number: u8, offset: usize) -> Result<(), Fail> {
     let mut alphabet = Alphabet::new();
     let mut place = Nodes::new();
-    match read_property(file, &mut alphabet, &mut place) {
-        Ok(()) => Err(Fail::new("the file is taken")),
-        Err(fault) => {
-            let report = fault.report();
-            assert_eq!(rt; report.layer, layer);
-            assert_eq!(rt; report.number, number);
-            assert_eq!(rt; report.offset, offset);
-            Ok(())
-        }
-    }
+    let Err(fault) = read_property(file, &mut alphabet, &mut place) else {
+        return Err(Fail::new("the file is taken"));
+    };
+    let report = Report {
+        layer,
+        number,
+        offset,
+    };
+    assert_eq!(rt; fault.report(), report);
+    Ok(())
 }
 
 #[test]
 fn order(rt: HostRuntime) -> Result<(), Fail> {
-    let unnamed = joined(rt.alloc(), &IDLE, &all(1, 3))?;
+    let heap = rt.alloc();
+    let unnamed = joined(heap, &IDLE, &all(1, 3))?;
     reports(&rt, unnamed.as_slice(), 2, 7, 17)?;
-    let looped = joined(rt.alloc(), &IDLE, &choice(97, 2))?;
+    let looped = joined(heap, &IDLE, &choice(97, 2))?;
     reports(&rt, looped.as_slice(), 2, 8, 17)?;
-    let open = joined(rt.alloc(), &IDLE, &lap(2))?;
+    let open = joined(heap, &IDLE, &lap(2))?;
     reports(&rt, open.as_slice(), 2, 8, 17)?;
-    let mut letters = joined(rt.alloc(), &NOTHING, &choice(97, 0))?;
+    let mut letters = joined(heap, &NOTHING, &choice(97, 0))?;
     letters.extend_from_slice(&[0, 0, 9, 0])?;
     reports(&rt, letters.as_slice(), 2, 9, 4)?;
-    let kinds = joined(rt.alloc(), &[0, 0, 9, 0], &choice(97, 0))?;
+    let kinds = joined(heap, &[0, 0, 9, 0], &choice(97, 0))?;
     reports(&rt, kinds.as_slice(), 1, 3, 0)?;
-    let cut = joined(rt.alloc(), &NOTHING, &[2, 0, 6])?;
+    let cut = joined(heap, &NOTHING, &[2, 0, 6])?;
     reports(&rt, cut.as_slice(), 1, 2, 4)?;
-    let mut long = Vec::new(rt.alloc());
-    for _ in 0..16_385 {
-        long.push(7)?;
-    }
+    let long = vec![in heap; 7u8; 16_385]?;
     reports(&rt, long.as_slice(), 1, 1, 0)
 }

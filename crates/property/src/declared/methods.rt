@@ -30,11 +30,9 @@ impl Declared {
     fn least(&self) -> usize
         ensures { result ≡ least_past (declared_in self.now) }
     {
-        if self.count == 0 {
-            0
-        } else {
-            self.letters[self.count - 1] as usize + 1
-        }
+        self.letters()
+            .last()
+            .map_or(0, |last| usize::from(*last) + 1)
     }
 
     /// Whether a byte may not be declared next.

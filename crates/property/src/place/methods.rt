@@ -4,7 +4,7 @@ ghost use Rattle.property.specs.Placed.{stored, nodes_in, closing_in, sizes_in, 
 ghost use Rattle.property.specs.Sized.{MarksAlso, named_before};
 ghost use Rattle.property.specs.Sizes.{in_family};
 
-use crate::family::{mark_family_of, mark_named_before};
+use crate::listed::Listed;
 use crate::node::{MOST_NODES, Node};
 use crate::place::Nodes;
 
@@ -44,21 +44,30 @@ impl Nodes {
         &self.sizes[0..self.count]
     }
 
+    /// The nodes with their file.
+    pub(crate) fn listed<'a>(&'a self, file: &'a [u8]) -> Listed<'a>
+        ensures file { result.file.now ≡ file.now }
+        ensures nodes { result.nodes.now ≡ stored self.now }
+        ensures len { length result.nodes.now ≡ self.now.count }
+    {
+        Listed {
+            file,
+            nodes: self.nodes(),
+        }
+    }
+
     /// Marks the family of a node, and nothing else.
     pub fn mark_family(&self, file: &[u8], n: usize, marked: &mut [bool; MOST_NODES])
         ensures { (m : ℕ) → m < most_nodes → slice_index_or marked.new m false ≡ in_family (nodes_in file.now self.now) n m }
     {
-        mark_family_of(file, self.nodes(), n, marked);
+        self.listed(file).mark_family(n, marked);
     }
 
     /// Marks also the earlier nodes that a node names by branches, if it is marked itself.
     pub fn mark_named(&self, file: &[u8], n: usize, marked: &mut [bool; MOST_NODES])
         ensures { MarksAlso (λ m. named_before (nodes_in file.now self.now) marked.old n m) marked.old marked.new }
     {
-        let nodes = self.nodes();
-        if n < nodes.len() {
-            mark_named_before(file, nodes, n, marked);
-        }
+        self.listed(file).mark_named(n, marked);
     }
 
     /// The offset of the last record of the file.

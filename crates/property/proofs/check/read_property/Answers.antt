@@ -1,15 +1,12 @@
-use Rattle.std.proofs.Common.{◌≡◌, Ok, sym, refl, ap, subst, arith, length-take, rules}
+use Rattle.std.proofs.Common.{◌≡◌, Ok, sym, refl, ap, subst, rules}
 use Rattle.property.specs.Checks.{Parts, checked}
 use Rattle.property.specs.Drafts.{parts_of}
 use Rattle.property.specs.Placed.{answer, AlphabetAfter}
-use Rattle.property.proofs.Measuring.{laid_out, all_held}
+use Rattle.property.proofs.Measuring.{named_earlier, all_held}
 use Rattle.property.proofs.check.read_property.Goals as goal
 
 pub measure-requires : goal.measure-requires
-measure-requires c =
-    laid_out c.args.file.now c.fill.new.place (parts_of c.args.file.now c.fill.new.declared c.fill.new.place)
-    (omega (arith, length-take c.fill.new.place.count c.fill.new.place.nodes, c.fill.new.place.within))
-    (sym c.in_default.ensures.answer) refl
+measure-requires c = named_earlier c.args.file.now (parts_of c.args.file.now c.fill.new.declared c.fill.new.place) (sym c.in_default.ensures.answer)
 
 pub returns : goal.returns
 returns c =

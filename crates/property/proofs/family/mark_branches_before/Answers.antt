@@ -9,7 +9,7 @@ loop-branch-preserved-then-number-end c =
       g.0,
       g.1,
       s.0 ∙ c.loop-branch.invariant.2,
-      subst (λ (k : ℕ). Marking c.args.body.now c.next.new.self.rest.now c.args.end c.args.marked.now (set c.loop-branch.marked k true)) (sym c.two_bytes-number.ensures)
+      subst (λ (k : ℕ). Marking c.args.body.now c.next.new.self.rest.now c.args.end c.args.marked.now (set c.loop-branch.marked k true)) (sym c.number_of-number.ensures)
           (marking_more _ c.loop-branch.branch-iterator.rest.now c.in-Some.branch.now c.next.new.self.rest.now _ _ _ c.loop-branch.invariant.3 s.1.0 (s.1.1 ∙ c.loop-branch.invariant.2) (omega arith) (omega arith)),
     )
 

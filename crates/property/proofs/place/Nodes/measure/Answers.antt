@@ -1,22 +1,31 @@
-use Rattle.std.proofs.Common.{◌≡◌, ℕ, List, length, sym, refl, ap, ◌∙◌, subst, arith}
+use Rattle.std.proofs.Common.{refl, take, length-set, ◌≡◌, length, sym, ap, ◌∙◌, arith, length-take-le}
 use Rattle.std.proofs.lemmas.List.{length-map}
-use Rattle.property.specs.declared.node.Node.{Node}
-use Rattle.property.specs.Meant.{meant, all_meant}
-use Rattle.property.specs.Placed.{stored}
-use Rattle.property.specs.Sized.{Kept}
+use Rattle.property.specs.Meant.{meant, all_meant, listed}
+use Rattle.property.specs.Placed.{nodes_in, sizes_of}
+use Rattle.property.specs.Sized.{cut}
+use Rattle.property.specs.Sizes.{size}
 use Rattle.property.proofs.Measuring.{measured}
+use Rattle.property.proofs.SizingNodes.{kept_first, kept_more}
 use Rattle.property.proofs.place.Nodes.measure.Goals as goal
 
-pub returns : goal.returns
-returns c =
-    let file : List ℕ = c.args.file.now in
-    let ns : List Node = stored c.args.self.now in
-    let count : length ns ≡ c.args.self.now.count = ap length (sym c.nodes.ensures.value) ∙ c.nodes.ensures.len in
-    let kept : Kept (all_meant file ns) c.fill_sizes.new.sizes (length ns) = subst (λ (xs : List Node). Kept (all_meant file xs) c.fill_sizes.new.sizes (length xs)) c.nodes.ensures.value c.fill_sizes.ensures.kept in
-    record {
-      sizes = measured (all_meant file ns) c.fill_sizes.new.sizes c.args.self.now.count (sym count ∙ sym (length-map ns (meant file))) (omega (arith, c.fill_sizes.auto.sizes))
-          (subst (λ k. Kept (all_meant file ns) c.fill_sizes.new.sizes k) count kept);
-      stored = refl;
-      closing = refl;
-      last = refl;
-    }
+pub loop-n-init : goal.loop-n-init
+loop-n-init c = record { long = refl; kept = λ m h. absurd (omega arith) }
+
+pub size_of-requires-clause-kept : goal.size_of-requires-clause-kept
+size_of-requires-clause-kept c = kept_first _ _ _ (omega (arith, c.listed-listed.result.few)) c.loop-n.invariant.kept
+
+pub loop-n-preserved : goal.loop-n-preserved
+loop-n-preserved c = record {
+  long = length-set c.loop-n.sizes c.loop-n.n c.size_of.result ∙ c.loop-n.invariant.long;
+  kept = kept_more _ _ _ _ (omega (arith, c.listed-listed.result.few))
+      (c.size_of.ensures ∙ ap (λ n. cut (size (listed c.listed-listed.result) n)) (length-take-le c.loop-n.n c.loop-n.sizes (omega (arith, c.listed-listed.result.few)))) c.loop-n.invariant.kept;
+}
+
+pub returns-clause-sizes : goal.returns-clause-sizes
+returns-clause-sizes c =
+    let stands : c.loop-n.n ≡ length c.listed-listed.result.nodes.now = omega arith in
+    let count : c.args.self.now.count ≡ c.loop-n.n = sym c.listed-listed.ensures.len ∙ sym stands in
+    ap (λ n. take n c.loop-n.sizes) count
+    ∙ measured (listed c.listed-listed.result) c.loop-n.sizes c.loop-n.n (stands ∙ sym (length-map c.listed-listed.result.nodes.now (meant c.listed-listed.result.file.now))) (omega (arith, c.listed-listed.result.few)) c.loop-n.invariant.kept
+    ∙ ap (λ ns. sizes_of (all_meant c.listed-listed.result.file.now ns)) c.listed-listed.ensures.nodes
+    ∙ ap (λ file. sizes_of (nodes_in file c.args.self.now)) c.listed-listed.ensures.file

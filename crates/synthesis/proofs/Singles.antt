@@ -5,7 +5,6 @@ use lib.Bits.{bit_and}
 use Rattle.std.proofs.lemmas.Nat.{mul-le}
 use Rattle.std.proofs.lemmas.Bool.{cases_eq, eq-eqb, ne_eqb, lt-ltb, le-ltb}
 use Rattle.property.specs.Meant.{meant}
-use Rattle.property.specs.Placed.{stored}
 use Rattle.property.specs.declared.node.Node as PN
 use Rattle.property.specs.declared.node.Node.TheVariants as PV
 use Rattle.property.specs.Nodes.{Node, Nothing, Choice, Sequence, Both, Lap, All, node, is_loop}
@@ -20,12 +19,10 @@ use Rattle.places.proofs.Branches.{sound_as, target_branch, branch_earlier}
 use Rattle.places.proofs.Choices.{offset_rises, offset_next, locate_at}
 use Rattle.places.proofs.Falling.{Below}
 use Rattle.places.proofs.Sizes.{walk_size}
-use Rattle.synthesis.specs.declared.course.Course.{Course}
-use Rattle.synthesis.specs.Courses.{bit, course, nodes_of}
+use Rattle.synthesis.specs.Kept.{bit, course}
 use Rattle.synthesis.specs.Outcomes.{Like, lapped, leads_on, onto}
 use Rattle.synthesis.specs.Singles.{is_at, is_done, ends_at}
 use Rattle.synthesis.proofs.Bitwise.{bit_zero, and_bit}
-use Rattle.synthesis.proofs.Grounding.{node_read}
 use Rattle.synthesis.proofs.Starting.{size_nothing, size_sequence, size_both, size_all, size_lap, size_family, size_choice}
 use Rattle.synthesis.proofs.Courses.{course_plain, course_loop, course_size, course_sequence, course_both, course_all_step, course_lap_step, course_choice_step, course_starts, course_stays, course_falls}
 
@@ -44,10 +41,10 @@ product_one x y e = elim (cases_eq x 0) [
 ]
 
 -- a program's node is a loop or is not
-pub loop_as : (c : Course) (ns : List PN.Node) (n : ℕ) → ns ≡ stored c.nodes.now
-    → ((a : ℕ) × (get_or ns n PV.Nothing ≡ PV.Lap a)) ⊎ ((a : ℕ) × (b : ℕ) × (get_or ns n PV.Nothing ≡ PV.All a b)) → is_loop (node (nodes_of c) n) ≡ true
-loop_as c ns n e (inl q) = ap (λ x. is_loop x) (node_read c.file.now c.nodes.now ns n (PV.Lap q.0) e q.1)
-loop_as c ns n e (inr q) = ap (λ x. is_loop x) (node_read c.file.now c.nodes.now ns n (PV.All q.0 q.1) e q.2)
+pub loop_as : (file : List ℕ) (nodes : List Node) (n : ℕ) (x : PN.Node) → node nodes n ≡ meant file x
+    → ((a : ℕ) × (x ≡ PV.Lap a)) ⊎ ((a : ℕ) × (b : ℕ) × (x ≡ PV.All a b)) → is_loop (node nodes n) ≡ true
+loop_as file nodes n x e (inl q) = ap (λ y. is_loop y) (e ∙ ap (meant file) q.1)
+loop_as file nodes n x e (inr q) = ap (λ y. is_loop y) (e ∙ ap (meant file) q.2)
 
 is_plain : (file : List ℕ) (x : PN.Node) → ((a : ℕ) → x ≡ PV.Lap a → ⊥) → ((a b : ℕ) → x ≡ PV.All a b → ⊥) → is_loop (meant file x) ≡ false
 is_plain file PV.Nothing lap all = refl
@@ -57,9 +54,9 @@ is_plain file (PV.Both a b) lap all = refl
 is_plain file (PV.Lap a) lap all = absurd (lap a refl)
 is_plain file (PV.All a b) lap all = absurd (all a b refl)
 
-pub plain_as : (c : Course) (ns : List PN.Node) (n : ℕ) → ns ≡ stored c.nodes.now
-    → ((a : ℕ) → get_or ns n PV.Nothing ≡ PV.Lap a → ⊥) → ((a b : ℕ) → get_or ns n PV.Nothing ≡ PV.All a b → ⊥) → is_loop (node (nodes_of c) n) ≡ false
-plain_as c ns n e lap all = ap (λ x. is_loop x) (node_read c.file.now c.nodes.now ns n (get_or ns n PV.Nothing) e refl) ∙ is_plain c.file.now (get_or ns n PV.Nothing) lap all
+pub plain_as : (file : List ℕ) (nodes : List Node) (n : ℕ) (x : PN.Node) → node nodes n ≡ meant file x
+    → ((a : ℕ) → x ≡ PV.Lap a → ⊥) → ((a b : ℕ) → x ≡ PV.All a b → ⊥) → is_loop (node nodes n) ≡ false
+plain_as file nodes n x e lap all = ap (λ y. is_loop y) e ∙ is_plain file x lap all
 
 -- a start that is no place is kept as it is
 start_done : (k j : ℕ) (x s : Outcome) → Below 0 x → Like k x s → is_done s ≡ leads_on (shift j x)

@@ -1,5 +1,5 @@
 -- What a course's place has: its nodes and their sizes, by their numbers.
-use Rattle.std.proofs.Common.{◌≡◌, ℕ, ◌<◌, ◌≤◌, ◌⊎◌, List, length, get_or, sym, ap, ◌∙◌, inl, inr, arith, length-take}
+use Rattle.std.proofs.Common.{◌≡◌, ℕ, ◌<◌, ◌≤◌, ◌⊎◌, List, length, get_or, ap, ◌∙◌, inl, inr, arith, length-take}
 use Rattle.std.proofs.lemmas.List.FromFn.{length-map-range_with_len, get_or-map-range_with_len}
 use Rattle.std.proofs.lemmas.List.{length-map}
 use Rattle.property.specs.Meant.{meant}
@@ -8,9 +8,8 @@ use Rattle.property.specs.Placed.{nodes_in, sizes_in, sizes_of, stored}
 use Rattle.property.specs.Sized.{cut}
 use Rattle.property.specs.Sizes.{size}
 use Rattle.property.specs.declared.node.Node.{Node}
-use Rattle.property.specs.declared.node.Node.TheVariants.{Nothing, Sequence, Both, Lap, All}
+use Rattle.property.specs.declared.node.Node.TheVariants.{Sequence, Both, Lap, All}
 use Rattle.property.specs.declared.place.Nodes.{Nodes}
-use Rattle.property.proofs.Meaning.{node_meant}
 use Rattle.places.proofs.Branches.{sound_as}
 use Rattle.synthesis.specs.Kept.{Grounds}
 

@@ -1,19 +1,12 @@
 -- The row of a place, from the rows of the nodes that its node names.
 use Rattle.std.proofs.Common.{◌≡◌, ℕ, ◌+◌, ◌-◌, ◌*◌, ◌/◌, ◌%◌, ◌<◌, ◌≤◌, min, max, true, false, cond, ltb, ◌⊎◌, List, length, get_or, sym, refl, ap, ◌∙◌, subst, ap₂, inl, inr, mul_comm, arith}
 use Rattle.std.proofs.lemmas.Nat.{div_below, mod_below, mul-le}
-use Rattle.std.proofs.lemmas.List.{length-map, length-take}
 use Rattle.std.proofs.lemmas.Bool.{cases_lt, lt-ltb, le-ltb}
 use Rattle.letters.specs.Alphabets.{most_letters}
-use Rattle.property.specs.declared.node.Node as P
-use Rattle.property.specs.declared.node.Node.TheVariants as V
-use Rattle.property.specs.Checks.{most_nodes}
-use Rattle.property.specs.Meant.{meant}
 use Rattle.property.specs.Nodes.{Node, Sequence, Both, Lap, All, node}
 use Rattle.property.specs.Numbered.{before}
-use Rattle.property.specs.Placed.{stored}
 use Rattle.property.specs.Sized.{most_size, cut}
 use Rattle.property.specs.Sizes.{size}
-use Rattle.property.proofs.Meaning.{node_meant}
 use Rattle.property.proofs.Numbering.{before_lt}
 use Rattle.places.specs.Walks.{Walk, then_second, sequence_walk, both_walk, meet, shift}
 use Rattle.places.specs.declared.outcome.Outcome.{Outcome}

@@ -98,6 +98,11 @@ pub(crate) fn draw(course: &Course, table: &mut [u16])
     let mut line = [NO_ROW; MOST_LETTERS];
     for place in 0..course.size() {
         course.line(place, &mut line);
-        put(&line, course.checked.letters.len(), place as usize * width, table);
+        put(
+            &line,
+            course.checked.letters.len(),
+            place as usize * width,
+            table,
+        );
     }
 }

@@ -33,7 +33,9 @@ impl Course<'_> {
         ensures { OffsetsKept self.now n offsets.new }
     {
         let mut marked = [false; MOST_NODES];
-        self.checked.nodes.mark_family(self.checked.file, n, &mut marked);
+        self.checked
+            .nodes
+            .mark_family(self.checked.file, n, &mut marked);
         let mut total = 0;
         for m in 0..n + 1 {
             offsets[m] = total;
@@ -59,7 +61,9 @@ impl Course<'_> {
                 if first <= place {
                     return (m, first);
                 }
-                self.checked.nodes.mark_named(self.checked.file, m, &mut marked);
+                self.checked
+                    .nodes
+                    .mark_named(self.checked.file, m, &mut marked);
             }
         }
         unreachable!()

@@ -81,7 +81,13 @@ impl CheckedFile<'_> {
 
     /// The letters that lead on from the only place of a Sequence.
     #[tactic(auto, using(crate::proofs::Grounding::few_nodes))]
-    fn ones_in_sequence(&self, starts: &[Outcome; MOST_NODES], ones: &[u32; MOST_NODES], a: usize, b: usize) -> u32
+    fn ones_in_sequence(
+        &self,
+        starts: &[Outcome; MOST_NODES],
+        ones: &[u32; MOST_NODES],
+        a: usize,
+        b: usize,
+    ) -> u32
         requires first { a < length (checked_nodes self.now) }
         requires second { b < length (checked_nodes self.now) }
         ensures { result ≡ (if nat_eq (size (checked_nodes self.now) b) 1 then slice_index ones.now b else (if is_done (slice_index_or starts.now b Dead) then slice_index ones.now a else 0)) }

@@ -1,7 +1,6 @@
-use Rattle.std.proofs.Common.{get_or, refl, ◌∙◌, arith}
+use Rattle.std.proofs.Common.{get_or, refl, ◌∙◌}
 use Rattle.places.specs.declared.outcome.Outcome.TheVariants.{Dead}
 use Rattle.synthesis.proofs.Belonging.{choice_at, enters_choice, enters_whole, whole_of_other}
-use Rattle.synthesis.proofs.Grounding.{few_nodes}
 use Rattle.synthesis.proofs.course.Course.entered.Goals as goal
 
 pub returns-in-Choice : goal.returns-in-Choice

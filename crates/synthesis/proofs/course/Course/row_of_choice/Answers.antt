@@ -3,7 +3,6 @@ use Rattle.places.specs.declared.outcome.Outcome.TheVariants.{Dead}
 use Rattle.property.specs.Nodes.{branches}
 use Rattle.synthesis.specs.Courses.{course, letters_of, nodes_of}
 use Rattle.synthesis.proofs.Belonging.{choice_at, set_more, small_choice, stands, whole_of_other}
-use Rattle.synthesis.proofs.Grounding.{few_nodes}
 use Rattle.synthesis.proofs.course.Course.row_of_choice.Goals as goal
 
 pub member_at-m-requires : goal.member_at-m-requires

@@ -18,6 +18,8 @@ use Rattle.synthesis.specs.declared.course.Course.{Course}
 use Rattle.synthesis.specs.Courses.{Ready, PlaceOf, Row, course, nodes_of, letters_of}
 use Rattle.synthesis.specs.Members.{Belongs}
 use Rattle.synthesis.specs.Outcomes.{Like, after_first, kept, lapped}
+use Rattle.synthesis.proofs.Grounding.{sequence_earlier, product_earlier, lap_earlier}
+use Rattle.synthesis.proofs.Starting.{size_sequence, size_product, size_lap}
 use Rattle.synthesis.proofs.Courses.{course_size, course_sequence, course_both, course_all_step, course_lap_step, course_starts, course_stays}
 
 -- a place that is kept as it is
@@ -53,9 +55,6 @@ module _ (c : Course) where
   abbrev nodes : List Node
   nodes = nodes_of c
 
-  earlier_size : (n m : ℕ) → m < n → before 0 n (λ m. size nodes m) m ≡ size nodes m
-  earlier_size n m h = before_lt 0 n (λ m. size nodes m) m h
-
   -- the nodes that a Sequence names
   pub record Summed (n a b : ℕ) : Type 0 where
     pub first : a < n
@@ -64,12 +63,8 @@ module _ (c : Course) where
 
   pub sequence_parts : (n a b : ℕ) → node nodes n ≡ Sequence a b → Summed n a b
   sequence_parts n a b e =
-      let s = sound_as (letters_of c) nodes c.checked.grounds.sound n (Sequence a b) e in
-      record {
-        first = s.0.0;
-        second = s.1.0;
-        sum = size_of_kind nodes n (Sequence a b) e ∙ ap₂ (λ x y. x + y) (earlier_size n a s.0.0) (earlier_size n b s.1.0);
-      }
+      let s = sequence_earlier c.checked.file.now c.checked.nodes.now (letters_of c) c.checked.grounds n a b e in
+      record { first = s.0; second = s.1; sum = size_sequence (letters_of c) nodes c.checked.grounds.sound n a b e }
 
   -- the nodes that a Both or an All names
   pub record Multiplied (n a b : ℕ) : Type 0 where
@@ -81,20 +76,9 @@ module _ (c : Course) where
   Product n a b = (node nodes n ≡ Both a b) ⊎ (node nodes n ≡ All a b)
 
   pub product_parts : (n a b : ℕ) → Product n a b → Multiplied n a b
-  product_parts n a b (inl e) =
-      let s = sound_as (letters_of c) nodes c.checked.grounds.sound n (Both a b) e in
-      record {
-        first = s.0.0;
-        second = s.1.0;
-        product = size_of_kind nodes n (Both a b) e ∙ ap₂ (λ x y. x * y) (earlier_size n a s.0.0) (earlier_size n b s.1.0);
-      }
-  product_parts n a b (inr e) =
-      let s = sound_as (letters_of c) nodes c.checked.grounds.sound n (All a b) e in
-      record {
-        first = s.0.0;
-        second = s.1.0;
-        product = size_of_kind nodes n (All a b) e ∙ ap₂ (λ x y. x * y) (earlier_size n a s.0.0) (earlier_size n b s.1.0);
-      }
+  product_parts n a b e =
+      let s = product_earlier c.checked.file.now c.checked.nodes.now (letters_of c) c.checked.grounds n a b e in
+      record { first = s.0; second = s.1; product = size_product (letters_of c) nodes c.checked.grounds.sound n a b e }
 
   -- the node that a Lap names
   pub record Lapped (n a : ℕ) : Type 0 where
@@ -102,9 +86,10 @@ module _ (c : Course) where
     pub largest : size nodes n ≡ max 1 (size nodes a)
 
   pub lap_part : (n a : ℕ) → node nodes n ≡ Lap a → Lapped n a
-  lap_part n a e =
-      let s = sound_as (letters_of c) nodes c.checked.grounds.sound n (Lap a) e in
-      record { first = s.0.0; largest = size_of_kind nodes n (Lap a) e ∙ ap (max 1) (earlier_size n a s.0.0) }
+  lap_part n a e = record {
+    first = lap_earlier c.checked.file.now c.checked.nodes.now (letters_of c) c.checked.grounds n a e;
+    largest = size_lap (letters_of c) nodes c.checked.grounds.sound n a e;
+  }
 
   -- the kept start of a node of few places
   pub start_is : (n : ℕ) → n < length nodes → size nodes n ≤ most_size → get_or c.starts n Dead ≡ (course nodes n).start

@@ -8,6 +8,7 @@ use Rattle.property.specs.Meant.{meant}
 use Rattle.property.specs.declared.node.Node as PN
 use Rattle.property.specs.declared.node.Node.TheVariants as PV
 use Rattle.property.specs.Nodes.{Node, Nothing, Choice, Sequence, Both, Lap, All, node, is_loop}
+use Rattle.property.specs.Sized.{cut}
 use Rattle.property.specs.Sizes.{in_family, size}
 use Rattle.property.specs.Sound.{Sound}
 use Rattle.property.proofs.Families.{branch_in_family, itself_in_family}
@@ -133,11 +134,11 @@ module _ (alphabet : List ℕ) (nodes : List Node) (sound : Sound alphabet nodes
   abbrev Says : ℕ → ℕ → ℕ → ℕ → Type 0
   Says n l j w = size nodes n ≡ 1 → bit w j ≡ leads_on ((course nodes n).step 0 l)
 
-  pub sequence_ones : (n a b l j v w : ℕ) (s : Outcome) → n < length nodes → node nodes n ≡ Sequence a b → Like (size nodes b) (course nodes b).start s
-      → Says a l j v → Says b l j w → Says n l j (cond (eqb (size nodes b) 1) w (cond (is_done s) v 0))
-  sequence_ones n a b l j v w s h e k va wb one = elim (cases_eq (size nodes b) 1) [
-    | inl q ↦ ap (λ t. bit (cond t w (cond (is_done s) v 0)) j) (eq-eqb (size nodes b) 1 q) ∙ wb q ∙ sym (ap leads_on (in_second q))
-    | inr q ↦ ap (λ t. bit (cond t w (cond (is_done s) v 0)) j) (ne_eqb (size nodes b) 1 q) ∙ past (omega (arith, sums, q))
+  pub sequence_ones : (n a b l j v w k : ℕ) (s : Outcome) → n < length nodes → node nodes n ≡ Sequence a b → k ≡ cut (size nodes b) → Like (size nodes b) (course nodes b).start s
+      → Says a l j v → Says b l j w → Says n l j (cond (eqb k 1) w (cond (is_done s) v 0))
+  sequence_ones n a b l j v w k s h e z like va wb one = elim (cases_eq (size nodes b) 1) [
+    | inl q ↦ ap (λ t. bit (cond t w (cond (is_done s) v 0)) j) (eq-eqb k 1 (omega arith)) ∙ wb q ∙ sym (ap leads_on (in_second q))
+    | inr q ↦ ap (λ t. bit (cond t w (cond (is_done s) v 0)) j) (ne_eqb k 1 (λ p. q (omega arith))) ∙ past (omega (arith, sums, q))
   ]
     where
       sums : size nodes n ≡ size nodes a + size nodes b
@@ -163,7 +164,7 @@ module _ (alphabet : List ℕ) (nodes : List Node) (sound : Sound alphabet nodes
           let f = sound_as alphabet nodes sound n (Sequence a b) e in
           second_on (size nodes b) v j (course nodes b) ((course nodes a).step 0 l) s
           (plain_falls a l (omega (arith, f.0.0)) f.0.1 a_one)
-          (subst (λ x. Below x (course nodes b).start) q (course_starts alphabet nodes sound b (omega (arith, f.1.0)))) k (va a_one)
+          (subst (λ x. Below x (course nodes b).start) q (course_starts alphabet nodes sound b (omega (arith, f.1.0)))) like (va a_one)
           ∙ sym (ap leads_on (in_first q))
 
   product_step : (a b l : ℕ)

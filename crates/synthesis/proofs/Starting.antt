@@ -102,6 +102,10 @@ module _ (alphabet : List ℕ) (nodes : List Node) (sound : Sound alphabet nodes
       let s = sound_as alphabet nodes sound n (All a b) e in
       size_of_kind nodes n (All a b) e ∙ ap₂ (λ x y. x * y) (size_before n a s.0.0) (size_before n b s.1.0)
 
+  pub size_product : (n a b : ℕ) → (node nodes n ≡ Both a b) ⊎ (node nodes n ≡ All a b) → size nodes n ≡ size nodes a * size nodes b
+  size_product n a b (inl e) = size_both n a b e
+  size_product n a b (inr e) = size_all n a b e
+
   pub size_lap : (n a : ℕ) → node nodes n ≡ Lap a → size nodes n ≡ max 1 (size nodes a)
   size_lap n a e = let s = sound_as alphabet nodes sound n (Lap a) e in size_of_kind nodes n (Lap a) e ∙ ap (λ x. max 1 x) (size_before n a s.0.0)
 

@@ -26,23 +26,26 @@ impl Course<'_> {
         }
     }
 
-    /// Writes the first place of each member of the family of `n`.
+    /// The first place of each member of the family of `n`.
     #[tactic(auto, using(crate::proofs::Grounding::few_nodes))]
-    fn fill_offsets(&self, n: usize, offsets: &mut [u16; MOST_NODES])
+    fn offsets(&self, n: usize) -> [u16; MOST_NODES]
         requires { SmallChoice self.now n }
-        ensures { OffsetsKept self.now n offsets.new }
+        ensures { OffsetsKept self.now n result }
     {
         let mut marked = [false; MOST_NODES];
         self.checked
             .nodes
             .mark_family(self.checked.file, n, &mut marked);
+        let marks = &marked[..n + 1];
+        let mut offsets = [0; MOST_NODES];
         let mut total = 0;
-        for m in 0..n + 1 {
+        for (m, is_member) in marks.iter().enumerate() {
             offsets[m] = total;
-            if marked[m] {
+            if *is_member {
                 total += self.places_of(m);
             }
         }
+        offsets
     }
 
     /// The member of the family of `n` that the place belongs to, and its first place.
@@ -55,6 +58,7 @@ impl Course<'_> {
         let mut marked = [false; MOST_NODES];
         marked[n] = true;
         let mut first = self.checked.size_at(n);
+        // By index, since the sweep marks the earlier nodes that a member names as it goes.
         for m in (0..n + 1).rev() {
             if marked[m] {
                 first -= self.places_of(m);
@@ -107,8 +111,7 @@ impl Course<'_> {
         let (m, first) = self.member_at(n, place);
         match self.checked.node(m) {
             Node::Choice(start, count) => {
-                let mut offsets = [0; MOST_NODES];
-                self.fill_offsets(n, &mut offsets);
+                let offsets = self.offsets(n);
                 let body = branches_at(self.checked.file, start, count);
                 for (j, letter) in self.checked.letters.iter().enumerate() {
                     out[j] = self.entered_by(&offsets, body, *letter);

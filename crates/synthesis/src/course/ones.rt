@@ -1,4 +1,4 @@
-ghost use Rattle.std.specs.Prelude.{◌≡◌, ℕ, ◌^◌, ◌<◌, ◌≤◌, length, if◌then◌else◌, Some, nat_eq, slice_index, slice_index_or};
+ghost use Rattle.std.specs.Prelude.{◌≡◌, ℕ, ◌^◌, ◌<◌, ◌≤◌, length, if◌then◌else◌, Some, nat_eq, slice_index};
 ghost use Rattle.property.specs.Checks.{most_nodes};
 ghost use Rattle.property.specs.Nodes.{branches};
 ghost use Rattle.property.specs.Sizes.{size};
@@ -48,10 +48,7 @@ fn is_ending(starts: &[Outcome; MOST_NODES], body: &[u8], letter: Letter) -> boo
     requires { (m : ℕ) → target (branches body.now) letter ≡ Some m → m < most_nodes }
     ensures { result ≡ ends_at starts.now (target (branches body.now) letter) }
 {
-    match target(body, letter) {
-        None => false,
-        Some(m) => matches!(starts[m], Outcome::Done),
-    }
+    target(body, letter).is_some_and(|m| starts[m] == Outcome::Done)
 }
 
 /// The letters that lead on from the only place of a Lap, from where its node starts and the letters of that.
@@ -61,6 +58,20 @@ fn ones_in_lap(start: Outcome, ones: u32) -> u32
     match start {
         Outcome::At(_) => ones,
         Outcome::Dead | Outcome::Done => 0,
+    }
+}
+
+/// The letters that lead on from the only place of a Sequence, from those of its nodes; its second has `size` places and
+/// starts with `start`.
+fn ones_in_sequence(size: u16, start: Outcome, first: u32, second: u32) -> u32
+    ensures { result ≡ (if nat_eq size 1 then second else (if is_done start then first else 0)) }
+{
+    if size == 1 {
+        return second;
+    }
+    match start {
+        Outcome::Done => first,
+        Outcome::Dead | Outcome::At(_) => 0,
     }
 }
 
@@ -79,28 +90,6 @@ impl CheckedFile<'_> {
         bits
     }
 
-    /// The letters that lead on from the only place of a Sequence.
-    #[tactic(auto, using(crate::proofs::Grounding::few_nodes))]
-    fn ones_in_sequence(
-        &self,
-        starts: &[Outcome; MOST_NODES],
-        ones: &[u32; MOST_NODES],
-        a: usize,
-        b: usize,
-    ) -> u32
-        requires first { a < length (checked_nodes self.now) }
-        requires second { b < length (checked_nodes self.now) }
-        ensures { result ≡ (if nat_eq (size (checked_nodes self.now) b) 1 then slice_index ones.now b else (if is_done (slice_index_or starts.now b Dead) then slice_index ones.now a else 0)) }
-    {
-        if self.size_at(b) == 1 {
-            return ones[b];
-        }
-        match starts[b] {
-            Outcome::Done => ones[a],
-            Outcome::Dead | Outcome::At(_) => 0,
-        }
-    }
-
     /// The letters that lead on from the only place of a node, if it has only one.
     fn ones_of(&self, starts: &[Outcome; MOST_NODES], ones: &[u32; MOST_NODES], n: usize) -> u32
         requires within { n < length (checked_nodes self.now) }
@@ -113,7 +102,7 @@ impl CheckedFile<'_> {
             Node::Choice(start, count) => {
                 self.ending_letters(starts, branches_at(self.file, start, count))
             }
-            Node::Sequence(a, b) => self.ones_in_sequence(starts, ones, a, b),
+            Node::Sequence(a, b) => ones_in_sequence(self.size_at(b), starts[b], ones[a], ones[b]),
             Node::Both(a, b) | Node::All(a, b) => ones[a] & ones[b],
             Node::Lap(a) => ones_in_lap(starts[a], ones[a]),
         }

@@ -14,10 +14,8 @@ ending_letters-requires c l m e =
     let h = choice_below c.args.self.now.letters.now (checked_nodes c.args.self.now) c.args.self.now.grounds.sound c.args.n l m _ is (ap (λ (body : List ℕ). target (branches body) l) (sym c.branches_at.ensures) ∙ e) in
     omega (arith, few_nodes c.args.self.now.file.now c.args.self.now.nodes.now, c.requires.within, h)
 
-pub ones_in_sequence-requires : goal.ones_in_sequence-requires
-ones_in_sequence-requires c =
-    let h = sequence_names _ _ _ c.args.self.now.grounds _ _ c.node.ensures _ _ c.in-Sequence.is in
-    record { first = omega (arith, h.0, c.requires.within); second = omega (arith, h.1, c.requires.within) }
+pub size_at-requires : goal.size_at-requires
+size_at-requires c = let h = sequence_names _ _ _ c.args.self.now.grounds _ _ c.node.ensures _ _ c.in-Sequence.is in omega (arith, c.requires.within)
 
 pub returns-in-Nothing : goal.returns-in-Nothing
 returns-in-Nothing c one j h = absurd (nothing_none c.args.self.now.letters.now (checked_nodes c.args.self.now) c.args.self.now.grounds.sound c.args.n (node_as c.args.self.now.file.now c.args.self.now.nodes.now _ _ _ c.node.ensures c.in-Nothing.is) one)
@@ -36,7 +34,7 @@ returns-in-Sequence c one j h =
     let lt : c.in-Sequence.b < length (checked_nodes c.args.self.now) = omega (arith, f.1, c.requires.within) in
     ap (λ w. bit w j) c.ones_in_sequence.ensures
     ∙ sequence_ones c.args.self.now.letters.now (checked_nodes c.args.self.now) c.args.self.now.grounds.sound c.args.n c.in-Sequence.a c.in-Sequence.b (get_or c.args.self.now.letters.now j 0) j
-    (get_or c.args.ones.now c.in-Sequence.a 0) (get_or c.args.ones.now c.in-Sequence.b 0) (get_or c.args.starts.now c.in-Sequence.b Dead) c.requires.within is
+    (get_or c.args.ones.now c.in-Sequence.a 0) (get_or c.args.ones.now c.in-Sequence.b 0) c.size_at.result (get_or c.args.starts.now c.in-Sequence.b Dead) c.requires.within is c.size_at.ensures
     (c.requires.starts c.in-Sequence.b lt) (λ o. c.requires.kept c.in-Sequence.a f.0 o j h) (λ o. c.requires.kept c.in-Sequence.b f.1 o j h) one
 
 pub returns-in-Both : goal.returns-in-Both

@@ -11,8 +11,8 @@ member_at-m-requires c = record { small = small_choice _ _ _ c.requires.place c.
 pub node-requires : goal.node-requires
 node-requires c = (stands _ _ _ c.requires.place c.requires.choice _ _ c.member_at-m.ensures).within
 
-pub fill_offsets-requires : goal.fill_offsets-requires
-fill_offsets-requires c = small_choice _ _ _ c.requires.place c.requires.choice
+pub offsets-offsets-requires : goal.offsets-offsets-requires
+offsets-offsets-requires c = small_choice _ _ _ c.requires.place c.requires.choice
 
 pub entered_by-requires : goal.entered_by-requires
 entered_by-requires c =
@@ -27,7 +27,7 @@ loop-j-preserved c =
     let s = stands _ _ _ c.requires.place c.requires.choice _ _ c.member_at-m.ensures in (
       set_more Dead (λ k. (course (nodes_of c.args.self.now) c.args.n).step c.args.place (get_or (letters_of c.args.self.now) k 0)) c.loop-j.out c.loop-j.j c.entered_by.result
           (omega (arith, c.args.self.now.checked.grounds.few_letters, c.loop-j.invariant.1)) c.loop-j.invariant.0
-          (s.leads _ c.fill_offsets.ensures (branches c.branches_at-body.result.now) (choice_at c.args.self.now c.member_at-m.result.0 _ c.node.ensures _ _ c.branches_at-body.result.now c.in-Choice.is c.branches_at-body.ensures) (get_or (letters_of c.args.self.now) c.loop-j.j 0) c.entered_by.result c.entered_by.ensures),
+          (s.leads _ c.offsets-offsets.ensures (branches c.branches_at-body.result.now) (choice_at c.args.self.now c.member_at-m.result.0 _ c.node.ensures _ _ c.branches_at-body.result.now c.in-Choice.is c.branches_at-body.ensures) (get_or (letters_of c.args.self.now) c.loop-j.j 0) c.entered_by.result c.entered_by.ensures),
       length-set c.loop-j.out c.loop-j.j c.entered_by.result ∙ c.loop-j.invariant.1,
     )
 

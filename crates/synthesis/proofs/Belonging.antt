@@ -9,7 +9,6 @@ use Rattle.property.specs.Checks.{most_nodes}
 use Rattle.property.specs.Meant.{meant}
 use Rattle.property.specs.Nodes.{Node, Choice, node, branches, is_loop}
 use Rattle.property.specs.Numbered.{before}
-use Rattle.property.specs.Placed.{stored}
 use Rattle.property.specs.Sized.{cut, most_size}
 use Rattle.property.specs.Sizes.{in_family, size, size_by, total, weight}
 use Rattle.property.proofs.Numbering.{before_lt}
@@ -27,15 +26,11 @@ use Rattle.places.proofs.Families.{family_member, family_more, member_earlier, m
 use Rattle.places.proofs.Sizes.{walk_size}
 use Rattle.places.proofs.Traces.{choice_or_whole, whole_not_branches}
 use Rattle.synthesis.specs.declared.course.Course.{Course}
-use Rattle.synthesis.specs.Courses.{Grounded, Ready, PlaceOf, course, letters_of, nodes_of}
+use Rattle.synthesis.specs.Courses.{PlaceOf, course, letters_of, nodes_of}
 use Rattle.synthesis.specs.Members.{Belongs, Found, FamilyGoesOn, OfFamily, OfFile, OffsetsKept, SmallChoice, weight_kept}
 use Rattle.synthesis.specs.Outcomes.{Like, kept}
 use Rattle.synthesis.proofs.Courses.{course_choice_step, course_plain, course_starts}
-use Rattle.synthesis.proofs.Grounding.{node_read}
-
--- a node, from the program's
-node_at : (c : Course) (rs : List P.Node) (m : ℕ) → rs ≡ stored c.nodes.now → node (nodes_of c) m ≡ meant c.file.now (get_or rs m V.Nothing)
-node_at c rs m e = node_read c.file.now c.nodes.now rs m (get_or rs m V.Nothing) e refl
+use Rattle.synthesis.proofs.Grounding.{node_as}
 
 abbrev pub Other : P.Node → Type 0
 Other x = (start count : ℕ) → x ≡ V.Choice start count → ⊥
@@ -56,22 +51,22 @@ whole_other file w (V.Both a b) other = refl
 whole_other file w (V.Lap a) other = refl
 whole_other file w (V.All a b) other = refl
 
-module _ (c : Course) (rs : List P.Node) (m : ℕ) (e : rs ≡ stored c.nodes.now) where
-  pub weight_of_choice : (start count : ℕ) → get_or rs m V.Nothing ≡ V.Choice start count → 1 ≡ weight_kept c m
+module _ (c : Course) (m : ℕ) (x : P.Node) (e : node (nodes_of c) m ≡ meant c.checked.file.now x) where
+  pub weight_of_choice : (start count : ℕ) → x ≡ V.Choice start count → 1 ≡ weight_kept c m
   weight_of_choice start count q =
-      sym (ap (λ x. weight (λ k. cut (size (nodes_of c) k)) m x) (node_read c.file.now c.nodes.now rs m (V.Choice start count) e q))
+      sym (ap (λ y. weight (λ k. cut (size (nodes_of c) k)) m y) (node_as c.checked.file.now c.checked.nodes.now m x (V.Choice start count) e q))
 
-  pub weight_of_other : Other (get_or rs m V.Nothing) → cut (size (nodes_of c) m) ≡ weight_kept c m
+  pub weight_of_other : Other x → cut (size (nodes_of c) m) ≡ weight_kept c m
   weight_of_other other =
-      sym (ap (λ x. weight (λ k. cut (size (nodes_of c) k)) m x) (node_at c rs m e) ∙ weight_other c.file.now (λ k. cut (size (nodes_of c) k)) m (get_or rs m V.Nothing) other)
+      sym (ap (λ y. weight (λ k. cut (size (nodes_of c) k)) m y) e ∙ weight_other c.checked.file.now (λ k. cut (size (nodes_of c) k)) m x other)
 
-  pub whole_of_other : Other (get_or rs m V.Nothing) → member_of (walk (nodes_of c) m) (node (nodes_of c) m) ≡ Whole (walk (nodes_of c) m)
-  whole_of_other other = ap (λ x. member_of (walk (nodes_of c) m) x) (node_at c rs m e) ∙ whole_other c.file.now (walk (nodes_of c) m) (get_or rs m V.Nothing) other
+  pub whole_of_other : Other x → member_of (walk (nodes_of c) m) (node (nodes_of c) m) ≡ Whole (walk (nodes_of c) m)
+  whole_of_other other = ap (λ y. member_of (walk (nodes_of c) m) y) e ∙ whole_other c.checked.file.now (walk (nodes_of c) m) x other
 
--- the Choice whose branches stand in the body
-pub choice_at : (c : Course) (rs : List P.Node) (m start count : ℕ) (body : List ℕ) → rs ≡ stored c.nodes.now → get_or rs m V.Nothing ≡ V.Choice start count
-    → body ≡ take (branch_bytes * count) (drop start c.file.now) → node (nodes_of c) m ≡ Choice (branches body)
-choice_at c rs m start count body e q b = node_read c.file.now c.nodes.now rs m (V.Choice start count) e q ∙ ap (λ x. Choice (branches x)) (sym b)
+  -- the Choice whose branches stand in the body
+  pub choice_at : (start count : ℕ) (body : List ℕ) → x ≡ V.Choice start count → body ≡ take (branch_bytes * count) (drop start c.checked.file.now)
+      → node (nodes_of c) m ≡ Choice (branches body)
+  choice_at start count body q b = node_as c.checked.file.now c.checked.nodes.now m x (V.Choice start count) e q ∙ ap (λ y. Choice (branches y)) (sym b)
 
 -- one more is written
 pub set_more : {A : Type 0} (d : A) (f : ℕ → A) (xs : List A) (j : ℕ) (v : A) → j < length xs → ((i : ℕ) → i < j → get_or xs i d ≡ f i) → v ≡ f j
@@ -125,7 +120,7 @@ shift_kept k j (At p) s few like b =
     let q : like.0 ≡ p = like.3 (omega arith) in
     ap (λ x. kept (shift k x)) like.1 ∙ ap At (let z : min (k + like.0) most_size ≡ k + p = omega arith in z)
 
-module _ (c : Course) (grounded : Grounded c) (n : ℕ) (small : SmallChoice c n) where
+module _ (c : Course) (n : ℕ) (small : SmallChoice c n) where
   abbrev is_in : ℕ → Bool
   is_in k = in_family (nodes_of c) n k
 
@@ -133,16 +128,16 @@ module _ (c : Course) (grounded : Grounded c) (n : ℕ) (small : SmallChoice c n
   part k = member_of (walk (nodes_of c) k) (node (nodes_of c) k)
 
   plain : (m : ℕ) → is_in m ≡ true → is_loop (node (nodes_of c) m) ≡ false
-  plain m i = member_plain (nodes_of c) (letters_of c) grounded.sound n small.choice.0 small.choice.1 m i
+  plain m i = member_plain (nodes_of c) (letters_of c) c.checked.grounds.sound n small.choice.0 small.choice.1 m i
 
   not_after : (m : ℕ) → is_in m ≡ true → m ≤ n
-  not_after m i = member_le (nodes_of c) (letters_of c) grounded.sound n m i
+  not_after m i = member_le (nodes_of c) (letters_of c) c.checked.grounds.sound n m i
 
   plain_size : (m : ℕ) → is_in m ≡ true → (walk (nodes_of c) m).size ≡ size (nodes_of c) m
-  plain_size m i = walk_size (letters_of c) (nodes_of c) grounded.sound m (plain m i)
+  plain_size m i = walk_size (letters_of c) (nodes_of c) c.checked.grounds.sound m (plain m i)
 
   earlier : (m : ℕ) → is_in m ≡ true → ((cs : List (ℕ × ℕ)) → node (nodes_of c) m ≡ Choice cs → ⊥) → m < n
-  earlier m i other = member_earlier (nodes_of c) (letters_of c) grounded.sound n small.choice.0 small.choice.1 m i other
+  earlier m i other = member_earlier (nodes_of c) (letters_of c) c.checked.grounds.sound n small.choice.0 small.choice.1 m i other
 
   abbrev known : ℕ → ℕ
   known = before 0 n (λ k. size (nodes_of c) k)
@@ -187,13 +182,13 @@ module _ (c : Course) (grounded : Grounded c) (n : ℕ) (small : SmallChoice c n
   enters_choice offsets m cs ok i e = ap At (ok m (not_after m i)) ∙ sym (ap (λ x. enter_member is_in part m (member_of (walk (nodes_of c) m) x)) e)
 
   same_walk : (m : ℕ) → is_in m ≡ true → course (nodes_of c) m ≡ walk (nodes_of c) m
-  same_walk m i = course_plain (letters_of c) (nodes_of c) grounded.sound m (plain m i)
+  same_walk m i = course_plain (letters_of c) (nodes_of c) c.checked.grounds.sound m (plain m i)
 
   pub enters_whole : (offsets : List ℕ) (m : ℕ) (s : Outcome) → OffsetsKept c n offsets → is_in m ≡ true → part m ≡ Whole (walk (nodes_of c) m) → m < length (nodes_of c)
       → Like (size (nodes_of c) m) (course (nodes_of c) m).start s → kept (shift (get_or offsets m 0) s) ≡ enter is_in part m
   enters_whole offsets m s ok i w h like =
       ap (λ k. kept (shift k s)) (ok m (not_after m i))
-      ∙ shift_kept (offset is_in part m) (size (nodes_of c) m) (course (nodes_of c) m).start s (whole_inside m i w) like (course_starts (letters_of c) (nodes_of c) grounded.sound m h)
+      ∙ shift_kept (offset is_in part m) (size (nodes_of c) m) (course (nodes_of c) m).start s (whole_inside m i w) like (course_starts (letters_of c) (nodes_of c) c.checked.grounds.sound m h)
       ∙ ap (λ v. shift (offset is_in part m) v.start) (same_walk m i)
       ∙ sym (ap (λ x. enter_member is_in part m x) w)
 
@@ -259,7 +254,7 @@ module _ (c : Course) (grounded : Grounded c) (n : ℕ) (small : SmallChoice c n
 
     step_here : (l : ℕ) → (course (nodes_of c) n).step p l ≡ step_member is_in part m p l (part m)
     step_here l =
-        course_choice_step (letters_of c) (nodes_of c) grounded.sound n p l small.choice.0 small.choice.1
+        course_choice_step (letters_of c) (nodes_of c) c.checked.grounds.sound n p l small.choice.0 small.choice.1
         ∙ sym (ap (λ x. step_member is_in part x p l (part x)) at.0)
 
     belongs : part m ≡ Whole (walk (nodes_of c) m) → Belongs c n p m k
@@ -288,14 +283,14 @@ module _ (c : Course) (grounded : Grounded c) (n : ℕ) (small : SmallChoice c n
       family_to : (to : Option ℕ) → target cs l ≡ to → OfFamily c n to
       family_to None q = tt
       family_to (Some k) q =
-          family_member (nodes_of c) (letters_of c) grounded.sound (family_more (nodes_of c) l (member_family (nodes_of c) n m found.is_one) e (target_branch cs l k q))
+          family_member (nodes_of c) (letters_of c) c.checked.grounds.sound (family_more (nodes_of c) l (member_family (nodes_of c) n m found.is_one) e (target_branch cs l k q))
 
       leads_in_family : OfFamily c n (target cs l)
       leads_in_family = family_to (target cs l) refl
 
       file_to : (to : Option ℕ) → target cs l ≡ to → OfFile c to
       file_to None q = tt
-      file_to (Some k) q = let b = (branch_earlier (letters_of c) (nodes_of c) grounded.sound l e (target_branch cs l k q)).0 in omega (arith, found_within)
+      file_to (Some k) q = let b = (branch_earlier (letters_of c) (nodes_of c) c.checked.grounds.sound l e (target_branch cs l k q)).0 in omega (arith, found_within)
 
       leads_in_file : OfFile c (target cs l)
       leads_in_file = file_to (target cs l) refl
@@ -311,15 +306,15 @@ pub record Stands (c : Course) (n p m k : ℕ) : Type 0 where
 pub small_choice : (c : Course) (n p : ℕ) → PlaceOf c n p → ((bs : List (ℕ × ℕ)) × (node (nodes_of c) n ≡ Choice bs)) → SmallChoice c n
 small_choice c n p place choice = record { within = place.within; few = place.few; choice = choice }
 
-pub stands : (c : Course) → Ready c → (n p : ℕ) → PlaceOf c n p → ((bs : List (ℕ × ℕ)) × (node (nodes_of c) n ≡ Choice bs))
+pub stands : (c : Course) (n p : ℕ) → PlaceOf c n p → ((bs : List (ℕ × ℕ)) × (node (nodes_of c) n ≡ Choice bs))
     → (m k : ℕ) → Found c n p m k → Stands c n p m k
-stands c ready n p place choice m k at = record {
-  within = found_within c ready.grounded n small p m k place.inside at;
-  whole = belongs c ready.grounded n small p m k place.inside at;
-  names = leads_in_file c ready.grounded n small p m k place.inside at;
+stands c n p place choice m k at = record {
+  within = found_within c n small p m k place.inside at;
+  whole = belongs c n small p m k place.inside at;
+  names = leads_in_file c n small p m k place.inside at;
   leads = λ offsets ok cs e l r goes.
-      goes n small ok (leads_in_family c ready.grounded n small p m k place.inside at cs e l)
-      ∙ sym (leads_by c ready.grounded n small p m k place.inside at cs e l);
+      goes n small ok (leads_in_family c n small p m k place.inside at cs e l)
+      ∙ sym (leads_by c n small p m k place.inside at cs e l);
 }
   where
     small : SmallChoice c n

@@ -17,7 +17,7 @@ use Rattle.places.proofs.Equations.{walk_is, loop_is}
 use Rattle.places.proofs.Falling.{Below, Falls, below_more}
 use Rattle.places.proofs.Sizes.{walk_size, loop_size}
 use Rattle.places.proofs.Traces.{branches_choice, walk_told}
-use Rattle.synthesis.specs.Courses.{course, round}
+use Rattle.synthesis.specs.Kept.{course, round}
 use Rattle.synthesis.specs.Outcomes.{lapped, onto}
 pub use Rattle.synthesis.specs.Outcomes.{lap_start}
 

@@ -1,19 +1,12 @@
 -- The row of a place, from the rows of the nodes that its node names.
 use Rattle.std.proofs.Common.{◌≡◌, ℕ, ◌+◌, ◌-◌, ◌*◌, ◌/◌, ◌%◌, ◌<◌, ◌≤◌, min, max, true, false, cond, ltb, ◌⊎◌, List, length, get_or, sym, refl, ap, ◌∙◌, subst, ap₂, inl, inr, mul_comm, arith}
 use Rattle.std.proofs.lemmas.Nat.{div_below, mod_below, mul-le}
-use Rattle.std.proofs.lemmas.List.{length-map, length-take}
 use Rattle.std.proofs.lemmas.Bool.{cases_lt, lt-ltb, le-ltb}
 use Rattle.letters.specs.Alphabets.{most_letters}
-use Rattle.property.specs.declared.node.Node as P
-use Rattle.property.specs.declared.node.Node.TheVariants as V
-use Rattle.property.specs.Checks.{most_nodes}
-use Rattle.property.specs.Meant.{meant}
 use Rattle.property.specs.Nodes.{Node, Sequence, Both, Lap, All, node}
 use Rattle.property.specs.Numbered.{before}
-use Rattle.property.specs.Placed.{stored}
 use Rattle.property.specs.Sized.{most_size, cut}
 use Rattle.property.specs.Sizes.{size}
-use Rattle.property.proofs.Meaning.{node_meant}
 use Rattle.property.proofs.Numbering.{before_lt}
 use Rattle.places.specs.Walks.{Walk, then_second, sequence_walk, both_walk, meet, shift}
 use Rattle.places.specs.declared.outcome.Outcome.{Outcome}
@@ -25,6 +18,8 @@ use Rattle.synthesis.specs.declared.course.Course.{Course}
 use Rattle.synthesis.specs.Courses.{Ready, PlaceOf, Row, course, nodes_of, letters_of}
 use Rattle.synthesis.specs.Members.{Belongs}
 use Rattle.synthesis.specs.Outcomes.{Like, after_first, kept, lapped}
+use Rattle.synthesis.proofs.Grounding.{sequence_earlier, product_earlier, lap_earlier}
+use Rattle.synthesis.proofs.Starting.{size_sequence, size_product, size_lap}
 use Rattle.synthesis.proofs.Courses.{course_size, course_sequence, course_both, course_all_step, course_lap_step, course_starts, course_stays}
 
 -- a place that is kept as it is
@@ -52,28 +47,13 @@ positive x y z p q l = elim (cases_lt 0 x) [
   | inr h ↦ let m = mul-le x y 0 y h (omega arith) in absurd (omega arith)
 ]
 
+-- what each course has
+pub ready : (c : Course) → Ready c
+ready c = record { grounded = c.checked.grounds; starts = c.starts_kept; ones = c.ones_kept }
+
 module _ (c : Course) where
-  -- the node that a node of the program stands for
-  pub named : (ns : List P.Node) (n : ℕ) (x : P.Node) → ns ≡ stored c.nodes.now → get_or ns n V.Nothing ≡ x → node (nodes_of c) n ≡ meant c.file.now x
-  named ns n x same e = node_meant c.file.now (stored c.nodes.now) n ∙ ap (meant c.file.now) (ap (λ l. get_or l n V.Nothing) (sym same) ∙ e)
-
-  pub named_product : (ns : List P.Node) (n a b : ℕ) → ns ≡ stored c.nodes.now → (get_or ns n V.Nothing ≡ V.Both a b) ⊎ (get_or ns n V.Nothing ≡ V.All a b)
-      → (node (nodes_of c) n ≡ Both a b) ⊎ (node (nodes_of c) n ≡ All a b)
-  named_product ns n a b same (inl e) = inl (named ns n (V.Both a b) same e)
-  named_product ns n a b same (inr e) = inr (named ns n (V.All a b) same e)
-
-  pub many : length (nodes_of c) ≡ length (stored c.nodes.now)
-  many = length-map (stored c.nodes.now) (meant c.file.now)
-
-  pub few_nodes : length (nodes_of c) ≤ most_nodes
-  few_nodes = omega (arith, many, length-take c.nodes.now.count c.nodes.now.nodes, c.nodes.now.within)
-
-module _ (c : Course) (ready : Ready c) where
   abbrev nodes : List Node
   nodes = nodes_of c
-
-  earlier_size : (n m : ℕ) → m < n → before 0 n (λ m. size nodes m) m ≡ size nodes m
-  earlier_size n m h = before_lt 0 n (λ m. size nodes m) m h
 
   -- the nodes that a Sequence names
   pub record Summed (n a b : ℕ) : Type 0 where
@@ -83,12 +63,8 @@ module _ (c : Course) (ready : Ready c) where
 
   pub sequence_parts : (n a b : ℕ) → node nodes n ≡ Sequence a b → Summed n a b
   sequence_parts n a b e =
-      let s = sound_as (letters_of c) nodes ready.grounded.sound n (Sequence a b) e in
-      record {
-        first = s.0.0;
-        second = s.1.0;
-        sum = size_of_kind nodes n (Sequence a b) e ∙ ap₂ (λ x y. x + y) (earlier_size n a s.0.0) (earlier_size n b s.1.0);
-      }
+      let s = sequence_earlier c.checked.file.now c.checked.nodes.now (letters_of c) c.checked.grounds n a b e in
+      record { first = s.0; second = s.1; sum = size_sequence (letters_of c) nodes c.checked.grounds.sound n a b e }
 
   -- the nodes that a Both or an All names
   pub record Multiplied (n a b : ℕ) : Type 0 where
@@ -100,20 +76,9 @@ module _ (c : Course) (ready : Ready c) where
   Product n a b = (node nodes n ≡ Both a b) ⊎ (node nodes n ≡ All a b)
 
   pub product_parts : (n a b : ℕ) → Product n a b → Multiplied n a b
-  product_parts n a b (inl e) =
-      let s = sound_as (letters_of c) nodes ready.grounded.sound n (Both a b) e in
-      record {
-        first = s.0.0;
-        second = s.1.0;
-        product = size_of_kind nodes n (Both a b) e ∙ ap₂ (λ x y. x * y) (earlier_size n a s.0.0) (earlier_size n b s.1.0);
-      }
-  product_parts n a b (inr e) =
-      let s = sound_as (letters_of c) nodes ready.grounded.sound n (All a b) e in
-      record {
-        first = s.0.0;
-        second = s.1.0;
-        product = size_of_kind nodes n (All a b) e ∙ ap₂ (λ x y. x * y) (earlier_size n a s.0.0) (earlier_size n b s.1.0);
-      }
+  product_parts n a b e =
+      let s = product_earlier c.checked.file.now c.checked.nodes.now (letters_of c) c.checked.grounds n a b e in
+      record { first = s.0; second = s.1; product = size_product (letters_of c) nodes c.checked.grounds.sound n a b e }
 
   -- the node that a Lap names
   pub record Lapped (n a : ℕ) : Type 0 where
@@ -121,26 +86,27 @@ module _ (c : Course) (ready : Ready c) where
     pub largest : size nodes n ≡ max 1 (size nodes a)
 
   pub lap_part : (n a : ℕ) → node nodes n ≡ Lap a → Lapped n a
-  lap_part n a e =
-      let s = sound_as (letters_of c) nodes ready.grounded.sound n (Lap a) e in
-      record { first = s.0.0; largest = size_of_kind nodes n (Lap a) e ∙ ap (max 1) (earlier_size n a s.0.0) }
+  lap_part n a e = record {
+    first = lap_earlier c.checked.file.now c.checked.nodes.now (letters_of c) c.checked.grounds n a e;
+    largest = size_lap (letters_of c) nodes c.checked.grounds.sound n a e;
+  }
 
   -- the kept start of a node of few places
   pub start_is : (n : ℕ) → n < length nodes → size nodes n ≤ most_size → get_or c.starts n Dead ≡ (course nodes n).start
-  start_is n h few = like_same (size nodes n) (course nodes n).start (get_or c.starts n Dead) few (ready.starts n h)
+  start_is n h few = like_same (size nodes n) (course nodes n).start (get_or c.starts n Dead) few (c.starts_kept n h)
 
   pub start_kept : (n : ℕ) → n < length nodes → size nodes n ≤ most_size → get_or c.starts n Dead ≡ kept (get_or c.starts n Dead)
   start_kept n h few =
       let e = start_is n h few in
-      e ∙ sym (kept_below (size nodes n) (course nodes n).start few (course_starts (letters_of c) nodes ready.grounded.sound n h)) ∙ ap kept (sym e)
+      e ∙ sym (kept_below (size nodes n) (course nodes n).start few (course_starts (letters_of c) nodes c.checked.grounds.sound n h)) ∙ ap kept (sym e)
 
   -- where a letter leads from a place is kept as it is
   step_kept : (n p l : ℕ) → PlaceOf c n p → kept ((course nodes n).step p l) ≡ (course nodes n).step p l
   step_kept n p l h =
-      kept_below (size nodes n) ((course nodes n).step p l) h.few (course_stays (letters_of c) nodes ready.grounded.sound n p l h.within h.inside)
+      kept_below (size nodes n) ((course nodes n).step p l) h.few (course_stays (letters_of c) nodes c.checked.grounds.sound n p l h.within h.inside)
 
   few_letters : (j : ℕ) → j < length (letters_of c) → j < most_letters
-  few_letters j h = let k = ready.grounded.few_letters in omega arith
+  few_letters j h = let k = c.checked.grounds.few_letters in omega arith
 
   -- a place of a Choice that belongs to another node
   pub row_choice : (n p m k : ℕ) (was out : List Outcome) → PlaceOf c n p → Belongs c n p m k → Row c m (p - k) was → length out ≡ most_letters
@@ -170,10 +136,10 @@ module _ (c : Course) (ready : Ready c) where
         record { within = omega (arith, h.within, s.first); few = omega (arith, h.few, s.sum); inside = omega (arith, h.inside, s.sum) }
 
     whole : course nodes n ≡ sequence_walk (course nodes a) (course nodes b)
-    whole = course_sequence (letters_of c) nodes ready.grounded.sound n a b e
+    whole = course_sequence (letters_of c) nodes c.checked.grounds.sound n a b e
 
     second_size : k ≡ (course nodes b).size
-    second_size = sequence_size ∙ sym (course_size (letters_of c) nodes ready.grounded.sound b)
+    second_size = sequence_size ∙ sym (course_size (letters_of c) nodes c.checked.grounds.sound b)
 
     pub row_second : (out : List Outcome) → p < k → Row c b p out → Row c n p out
     row_second out l r j i =
@@ -235,14 +201,14 @@ module _ (c : Course) (ready : Ready c) where
         record { within = omega (arith, h.within, s.second); few = second_few; inside = omega (arith, mod_below p k product_positive) }
 
     both_step : (l : ℕ) → Product n a b → (course nodes n).step p l ≡ (both_walk (course nodes a) (course nodes b)).step p l
-    both_step l (inl q) = ap (λ w. w.step p l) (course_both (letters_of c) nodes ready.grounded.sound n a b q)
-    both_step l (inr q) = course_all_step (letters_of c) nodes ready.grounded.sound n a b p l q
+    both_step l (inl q) = ap (λ w. w.step p l) (course_both (letters_of c) nodes c.checked.grounds.sound n a b q)
+    both_step l (inr q) = course_all_step (letters_of c) nodes c.checked.grounds.sound n a b p l q
 
     product_step : (l : ℕ) → (course nodes n).step p l ≡ meet k ((course nodes a).step (p / k) l) ((course nodes b).step (p % k) l)
     product_step l =
         both_step l e
         ∙ ap (λ x. meet x ((course nodes a).step (p / x) l) ((course nodes b).step (p % x) l))
-        (course_size (letters_of c) nodes ready.grounded.sound b ∙ sym product_size)
+        (course_size (letters_of c) nodes c.checked.grounds.sound b ∙ sym product_size)
 
     pub row_product : (first second out : List Outcome) → Row c a (p / k) first → Row c b (p % k) second → length out ≡ most_letters
         → ((j : ℕ) → j < length out → get_or out j Dead ≡ kept (meet k (get_or first j Dead) (get_or second j Dead))) → Row c n p out
@@ -275,4 +241,4 @@ module _ (c : Course) (ready : Ready c) where
         let q = lap_place in
         each j (omega arith)
         ∙ ap₂ lapped (start_is a q.within q.few) (r j i)
-        ∙ sym (course_lap_step (letters_of c) nodes ready.grounded.sound n a p letter e)
+        ∙ sym (course_lap_step (letters_of c) nodes c.checked.grounds.sound n a p letter e)

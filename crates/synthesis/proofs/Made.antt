@@ -84,7 +84,7 @@ module _ (file : List ℕ) (place : Nodes) (alphabet : Alphabet) (rd : Read file
         s.2 way shortest.is_way.inserts ((admits (t ++ (way ++ end ∷ []))).0 goes)
 
   -- the course over the property
-  module _ (course : Course) (same_file : course.file.now ≡ file) (same_place : course.nodes.now ≡ place)
+  module _ (course : Course) (same_file : course.checked.file.now ≡ file) (same_place : course.checked.nodes.now ≡ place)
       (same_letters : letters_of course ≡ declarations.letters_of alphabet) where
     course_letters : letters_of course ≡ letters
     course_letters = same_letters ∙ rd.letters
@@ -92,7 +92,7 @@ module _ (file : List ℕ) (place : Nodes) (alphabet : Alphabet) (rd : Read file
     course_loop : loop_of course ≡ own_loop
     course_loop =
         ap (λ ns. loop ns (last_node ns))
-        (ap (λ f. nodes_in f course.nodes.now) same_file ∙ ap (λ p. nodes_in file p) same_place ∙ rd.holds.nodes)
+        (ap (λ f. nodes_in f course.checked.nodes.now) same_file ∙ ap (λ p. nodes_in file p) same_place ∙ rd.holds.nodes)
 
     pub course_fillable : (room work at : ℕ) → Fits file room work rd.parts at → Fillable (loop_of course) (letters_of course)
     course_fillable room work at fits =

@@ -12,7 +12,7 @@ use Rattle.places.specs.declared.outcome.Outcome.TheVariants.{Dead, At}
 use Rattle.places.proofs.Falling.{Below}
 use Rattle.places.proofs.Sizes.{loop_size}
 use Rattle.synthesis.specs.declared.course.Course.{Course}
-use Rattle.synthesis.specs.Courses.{Ready, PlaceOf, Row, course, round, nodes_of, letters_of, loop_of}
+use Rattle.synthesis.specs.Courses.{PlaceOf, Row, course, round, nodes_of, letters_of, loop_of}
 use Rattle.synthesis.specs.Drawn.{cell_of}
 use Rattle.synthesis.specs.Outcomes.{onto}
 use Rattle.synthesis.proofs.Courses.{course_loop, course_stays}
@@ -28,23 +28,23 @@ at_same e = cc
 -- the cells before j say where their letters lead from the place p
 pub record Drawn (r : Loop) (letters : List ℕ) (p : ℕ) (cells : List ℕ) (j : ℕ) : Type 0 where
   pub long : length cells ≡ most_letters
-  pub each : (k : ℕ) → k < j → row_named (get_or cells k no_row) ≡ r.next p (get_or letters k 0)
+  pub each : (k : ℕ) → k < j → k < length letters → row_named (get_or cells k no_row) ≡ r.next p (get_or letters k 0)
 
-module _ (c : Course) (ready : Ready c) where
+module _ (c : Course) where
   abbrev root : ℕ
   root = last_node (nodes_of c)
 
   pub root_within : root < length (nodes_of c)
-  root_within = let s = ready.grounded.sound.some in omega arith
+  root_within = let s = c.checked.grounds.sound.some in omega arith
 
   pub root_size : (loop_of c).size ≡ size (nodes_of c) root
-  root_size = loop_size (letters_of c) (nodes_of c) ready.grounded.sound root ready.grounded.sound.property
+  root_size = loop_size (letters_of c) (nodes_of c) c.checked.grounds.sound root c.checked.grounds.sound.property
 
   root_course : course (nodes_of c) root ≡ round (loop_of c)
-  root_course = course_loop (letters_of c) (nodes_of c) ready.grounded.sound root ready.grounded.sound.property
+  root_course = course_loop (letters_of c) (nodes_of c) c.checked.grounds.sound root c.checked.grounds.sound.property
 
   pub root_start : (loop_of c).size ≤ most_size → get_or c.starts root Dead ≡ At (loop_of c).boundary
-  root_start few = start_is c ready root root_within (let z = root_size in omega arith) ∙ ap (λ w. w.start) root_course
+  root_start few = start_is c root root_within (let z = root_size in omega arith) ∙ ap (λ w. w.start) root_course
 
   pub root_place : (p : ℕ) → (loop_of c).size ≤ most_size → p < (loop_of c).size → PlaceOf c root p
   root_place p few h =
@@ -58,23 +58,23 @@ module _ (c : Course) (ready : Ready c) where
       let e : (course (nodes_of c) root).step p letter ≡ onto ((loop_of c).next p letter) = ap (λ w. w.step p letter) root_course in
       ap (λ o. row_named (cell_of o)) (r j i ∙ e)
       ∙ named_back (size (nodes_of c) root) ((loop_of c).next p letter) h.few
-      (subst (λ o. Below (size (nodes_of c) root) o) e (course_stays (letters_of c) (nodes_of c) ready.grounded.sound root p letter h.within h.inside))
+      (subst (λ o. Below (size (nodes_of c) root) o) e (course_stays (letters_of c) (nodes_of c) c.checked.grounds.sound root p letter h.within h.inside))
 
   pub drawn_none : (p : ℕ) (cells : List ℕ) → length cells ≡ most_letters → Drawn (loop_of c) (letters_of c) p cells 0
   drawn_none p cells e = record { long = e; each = λ k h. absurd (omega arith) }
 
-  pub drawn_more : (p n : ℕ) (out : List Outcome) (cells : List ℕ) (j v : ℕ) → n ≡ root → PlaceOf c root p → Row c n p out → j < length (letters_of c)
+  pub drawn_more : (p n : ℕ) (out : List Outcome) (cells : List ℕ) (j v : ℕ) → n ≡ root → PlaceOf c root p → Row c n p out → j < most_letters
       → v ≡ cell_of (get_or out j Dead) → Drawn (loop_of c) (letters_of c) p cells j → Drawn (loop_of c) (letters_of c) p (set cells j v) (j + 1)
   drawn_more p n out cells j v at h r i e d = record { long = length-set cells j v ∙ d.long; each = each }
     where
-      here : row_named v ≡ (loop_of c).next p (get_or (letters_of c) j 0)
-      here = ap row_named e ∙ line_at p out h (subst (λ x. Row c x p out) at r) j i
+      here : j < length (letters_of c) → row_named v ≡ (loop_of c).next p (get_or (letters_of c) j 0)
+      here l = ap row_named e ∙ line_at p out h (subst (λ x. Row c x p out) at r) j l
 
-      each : (k : ℕ) → k < j + 1 → row_named (get_or (set cells j v) k no_row) ≡ (loop_of c).next p (get_or (letters_of c) k 0)
-      each k l = elim (cases_lt k j) [
-        | inl below ↦ ap row_named (get_or-set_other cells j k v no_row (λ q. omega arith)) ∙ d.each k below
+      each : (k : ℕ) → k < j + 1 → k < length (letters_of c) → row_named (get_or (set cells j v) k no_row) ≡ (loop_of c).next p (get_or (letters_of c) k 0)
+      each k l within = elim (cases_lt k j) [
+        | inl below ↦ ap row_named (get_or-set_other cells j k v no_row (λ q. omega arith)) ∙ d.each k below within
         | inr above ↦
             let same : j ≡ k = omega arith in
             subst (λ x. row_named (get_or (set cells j v) x no_row) ≡ (loop_of c).next p (get_or (letters_of c) x 0)) same
-            (ap row_named (get_or-set_same cells j v no_row (omega (arith, d.long, ready.grounded.few_letters))) ∙ here)
+            (ap row_named (get_or-set_same cells j v no_row (omega (arith, d.long))) ∙ here (omega (arith, within)))
       ]

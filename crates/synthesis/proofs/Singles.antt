@@ -5,10 +5,10 @@ use lib.Bits.{bit_and}
 use Rattle.std.proofs.lemmas.Nat.{mul-le}
 use Rattle.std.proofs.lemmas.Bool.{cases_eq, eq-eqb, ne_eqb, lt-ltb, le-ltb}
 use Rattle.property.specs.Meant.{meant}
-use Rattle.property.specs.Placed.{stored}
 use Rattle.property.specs.declared.node.Node as PN
 use Rattle.property.specs.declared.node.Node.TheVariants as PV
 use Rattle.property.specs.Nodes.{Node, Nothing, Choice, Sequence, Both, Lap, All, node, is_loop}
+use Rattle.property.specs.Sized.{cut}
 use Rattle.property.specs.Sizes.{in_family, size}
 use Rattle.property.specs.Sound.{Sound}
 use Rattle.property.proofs.Families.{branch_in_family, itself_in_family}
@@ -20,12 +20,10 @@ use Rattle.places.proofs.Branches.{sound_as, target_branch, branch_earlier}
 use Rattle.places.proofs.Choices.{offset_rises, offset_next, locate_at}
 use Rattle.places.proofs.Falling.{Below}
 use Rattle.places.proofs.Sizes.{walk_size}
-use Rattle.synthesis.specs.declared.course.Course.{Course}
-use Rattle.synthesis.specs.Courses.{bit, course, nodes_of}
+use Rattle.synthesis.specs.Kept.{bit, course}
 use Rattle.synthesis.specs.Outcomes.{Like, lapped, leads_on, onto}
 use Rattle.synthesis.specs.Singles.{is_at, is_done, ends_at}
 use Rattle.synthesis.proofs.Bitwise.{bit_zero, and_bit}
-use Rattle.synthesis.proofs.Grounding.{node_read}
 use Rattle.synthesis.proofs.Starting.{size_nothing, size_sequence, size_both, size_all, size_lap, size_family, size_choice}
 use Rattle.synthesis.proofs.Courses.{course_plain, course_loop, course_size, course_sequence, course_both, course_all_step, course_lap_step, course_choice_step, course_starts, course_stays, course_falls}
 
@@ -44,10 +42,10 @@ product_one x y e = elim (cases_eq x 0) [
 ]
 
 -- a program's node is a loop or is not
-pub loop_as : (c : Course) (ns : List PN.Node) (n : ℕ) → ns ≡ stored c.nodes.now
-    → ((a : ℕ) × (get_or ns n PV.Nothing ≡ PV.Lap a)) ⊎ ((a : ℕ) × (b : ℕ) × (get_or ns n PV.Nothing ≡ PV.All a b)) → is_loop (node (nodes_of c) n) ≡ true
-loop_as c ns n e (inl q) = ap (λ x. is_loop x) (node_read c.file.now c.nodes.now ns n (PV.Lap q.0) e q.1)
-loop_as c ns n e (inr q) = ap (λ x. is_loop x) (node_read c.file.now c.nodes.now ns n (PV.All q.0 q.1) e q.2)
+pub loop_as : (file : List ℕ) (nodes : List Node) (n : ℕ) (x : PN.Node) → node nodes n ≡ meant file x
+    → ((a : ℕ) × (x ≡ PV.Lap a)) ⊎ ((a : ℕ) × (b : ℕ) × (x ≡ PV.All a b)) → is_loop (node nodes n) ≡ true
+loop_as file nodes n x e (inl q) = ap (λ y. is_loop y) (e ∙ ap (meant file) q.1)
+loop_as file nodes n x e (inr q) = ap (λ y. is_loop y) (e ∙ ap (meant file) q.2)
 
 is_plain : (file : List ℕ) (x : PN.Node) → ((a : ℕ) → x ≡ PV.Lap a → ⊥) → ((a b : ℕ) → x ≡ PV.All a b → ⊥) → is_loop (meant file x) ≡ false
 is_plain file PV.Nothing lap all = refl
@@ -57,9 +55,9 @@ is_plain file (PV.Both a b) lap all = refl
 is_plain file (PV.Lap a) lap all = absurd (lap a refl)
 is_plain file (PV.All a b) lap all = absurd (all a b refl)
 
-pub plain_as : (c : Course) (ns : List PN.Node) (n : ℕ) → ns ≡ stored c.nodes.now
-    → ((a : ℕ) → get_or ns n PV.Nothing ≡ PV.Lap a → ⊥) → ((a b : ℕ) → get_or ns n PV.Nothing ≡ PV.All a b → ⊥) → is_loop (node (nodes_of c) n) ≡ false
-plain_as c ns n e lap all = ap (λ x. is_loop x) (node_read c.file.now c.nodes.now ns n (get_or ns n PV.Nothing) e refl) ∙ is_plain c.file.now (get_or ns n PV.Nothing) lap all
+pub plain_as : (file : List ℕ) (nodes : List Node) (n : ℕ) (x : PN.Node) → node nodes n ≡ meant file x
+    → ((a : ℕ) → x ≡ PV.Lap a → ⊥) → ((a b : ℕ) → x ≡ PV.All a b → ⊥) → is_loop (node nodes n) ≡ false
+plain_as file nodes n x e lap all = ap (λ y. is_loop y) e ∙ is_plain file x lap all
 
 -- a start that is no place is kept as it is
 start_done : (k j : ℕ) (x s : Outcome) → Below 0 x → Like k x s → is_done s ≡ leads_on (shift j x)
@@ -136,11 +134,11 @@ module _ (alphabet : List ℕ) (nodes : List Node) (sound : Sound alphabet nodes
   abbrev Says : ℕ → ℕ → ℕ → ℕ → Type 0
   Says n l j w = size nodes n ≡ 1 → bit w j ≡ leads_on ((course nodes n).step 0 l)
 
-  pub sequence_ones : (n a b l j v w : ℕ) (s : Outcome) → n < length nodes → node nodes n ≡ Sequence a b → Like (size nodes b) (course nodes b).start s
-      → Says a l j v → Says b l j w → Says n l j (cond (eqb (size nodes b) 1) w (cond (is_done s) v 0))
-  sequence_ones n a b l j v w s h e k va wb one = elim (cases_eq (size nodes b) 1) [
-    | inl q ↦ ap (λ t. bit (cond t w (cond (is_done s) v 0)) j) (eq-eqb (size nodes b) 1 q) ∙ wb q ∙ sym (ap leads_on (in_second q))
-    | inr q ↦ ap (λ t. bit (cond t w (cond (is_done s) v 0)) j) (ne_eqb (size nodes b) 1 q) ∙ past (omega (arith, sums, q))
+  pub sequence_ones : (n a b l j v w k : ℕ) (s : Outcome) → n < length nodes → node nodes n ≡ Sequence a b → k ≡ cut (size nodes b) → Like (size nodes b) (course nodes b).start s
+      → Says a l j v → Says b l j w → Says n l j (cond (eqb k 1) w (cond (is_done s) v 0))
+  sequence_ones n a b l j v w k s h e z like va wb one = elim (cases_eq (size nodes b) 1) [
+    | inl q ↦ ap (λ t. bit (cond t w (cond (is_done s) v 0)) j) (eq-eqb k 1 (omega arith)) ∙ wb q ∙ sym (ap leads_on (in_second q))
+    | inr q ↦ ap (λ t. bit (cond t w (cond (is_done s) v 0)) j) (ne_eqb k 1 (λ p. q (omega arith))) ∙ past (omega (arith, sums, q))
   ]
     where
       sums : size nodes n ≡ size nodes a + size nodes b
@@ -166,7 +164,7 @@ module _ (alphabet : List ℕ) (nodes : List Node) (sound : Sound alphabet nodes
           let f = sound_as alphabet nodes sound n (Sequence a b) e in
           second_on (size nodes b) v j (course nodes b) ((course nodes a).step 0 l) s
           (plain_falls a l (omega (arith, f.0.0)) f.0.1 a_one)
-          (subst (λ x. Below x (course nodes b).start) q (course_starts alphabet nodes sound b (omega (arith, f.1.0)))) k (va a_one)
+          (subst (λ x. Below x (course nodes b).start) q (course_starts alphabet nodes sound b (omega (arith, f.1.0)))) like (va a_one)
           ∙ sym (ap leads_on (in_first q))
 
   product_step : (a b l : ℕ)

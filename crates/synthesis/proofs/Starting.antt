@@ -4,7 +4,6 @@ use lib.Arith.{digits_lt}
 use Rattle.std.proofs.lemmas.Bool.{cases_lt}
 use Rattle.property.specs.Nodes.{Node, Nothing, Choice, Sequence, Both, Lap, All, node}
 use Rattle.property.specs.Numbered.{before}
-use Rattle.property.specs.Placed.{nodes_in}
 use Rattle.property.specs.Sized.{most_size, cut}
 use Rattle.property.specs.Sizes.{in_family, size}
 use Rattle.property.specs.Sound.{Sound}
@@ -17,9 +16,9 @@ use Rattle.places.proofs.Branches.{sound_as}
 use Rattle.places.proofs.Choices.{offset_next}
 use Rattle.places.proofs.Equations.{size_of_kind}
 use Rattle.places.proofs.Falling.{Below}
-use Rattle.synthesis.specs.Courses.{Grounded, Grounds, StartsKept, course, letters_of, nodes_of}
+use Rattle.synthesis.specs.Courses.{StartsKept, checked_nodes, course}
 use Rattle.synthesis.specs.Outcomes.{Like, after_first, kept, lap_start}
-use Rattle.synthesis.specs.declared.course.Course.{Course}
+use Rattle.synthesis.specs.declared.course.CheckedFile.{CheckedFile}
 use Rattle.synthesis.proofs.Courses.{offset_same, members_agree, course_by, course_size, course_starts, course_nothing, course_sequence, course_both, course_all_start, course_lap_start, course_choice_start}
 
 like_same : (j k : ℕ) (o s r : Outcome) → j ≡ k → o ≡ s → Like k s r → Like j o r
@@ -103,6 +102,10 @@ module _ (alphabet : List ℕ) (nodes : List Node) (sound : Sound alphabet nodes
       let s = sound_as alphabet nodes sound n (All a b) e in
       size_of_kind nodes n (All a b) e ∙ ap₂ (λ x y. x * y) (size_before n a s.0.0) (size_before n b s.1.0)
 
+  pub size_product : (n a b : ℕ) → (node nodes n ≡ Both a b) ⊎ (node nodes n ≡ All a b) → size nodes n ≡ size nodes a * size nodes b
+  size_product n a b (inl e) = size_both n a b e
+  size_product n a b (inr e) = size_all n a b e
+
   pub size_lap : (n a : ℕ) → node nodes n ≡ Lap a → size nodes n ≡ max 1 (size nodes a)
   size_lap n a e = let s = sound_as alphabet nodes sound n (Lap a) e in size_of_kind nodes n (Lap a) e ∙ ap (λ x. max 1 x) (size_before n a s.0.0)
 
@@ -129,79 +132,63 @@ module _ (alphabet : List ℕ) (nodes : List Node) (sound : Sound alphabet nodes
       ∙ ap (λ x. enter_member (λ m. in_family nodes n m) (λ m. member_of (walk nodes m) (node nodes m)) n (member_of (walk nodes n) x)) e
 
 -- the start of a node, by its kind
-module _ (c : Course) (g : Grounded c) (n : ℕ) (within : n < length (nodes_of c)) (before_n : StartsKept c n) where
+module _ (f : CheckedFile) (starts : List Outcome) (n : ℕ) (within : n < length (checked_nodes f)) (before_n : StartsKept (checked_nodes f) starts n) where
   abbrev StartsWith : Outcome → Type 0
-  StartsWith r = Like (size (nodes_of c) n) (course (nodes_of c) n).start r
+  StartsWith r = Like (size (checked_nodes f) n) (course (checked_nodes f) n).start r
 
-  pub start_nothing : node (nodes_of c) n ≡ Nothing → StartsWith Done
-  start_nothing e = subst (λ w. Like (size (nodes_of c) n) w.start Done) (sym (course_nothing _ _ g.sound n e)) refl
+  pub start_nothing : node (checked_nodes f) n ≡ Nothing → StartsWith Done
+  start_nothing e = subst (λ w. Like (size (checked_nodes f) n) w.start Done) (sym (course_nothing _ _ f.grounds.sound n e)) refl
 
-  pub start_choice : (bs : List (ℕ × ℕ)) (k : ℕ) → node (nodes_of c) n ≡ Choice bs → k ≡ cut (size (nodes_of c) n) → (1 ≤ k) × StartsWith (At (k - 1))
-  start_choice bs k e f =
-      let z = size_choice _ _ g.sound n bs e in
-      (omega arith, subst (λ o. Like (size (nodes_of c) n) o (At (k - 1))) (sym (choice_starts_at _ _ g.sound n bs e)) (k - 1, refl, omega arith, λ h. omega arith))
+  pub start_choice : (bs : List (ℕ × ℕ)) (k : ℕ) → node (checked_nodes f) n ≡ Choice bs → k ≡ cut (size (checked_nodes f) n) → (1 ≤ k) × StartsWith (At (k - 1))
+  start_choice bs k e z =
+      let s = size_choice _ _ f.grounds.sound n bs e in
+      (omega arith, subst (λ o. Like (size (checked_nodes f) n) o (At (k - 1))) (sym (choice_starts_at _ _ f.grounds.sound n bs e)) (k - 1, refl, omega arith, λ h. omega arith))
 
-  below : (m : ℕ) → m < n → Below (size (nodes_of c) m) (course (nodes_of c) m).start
-  below m h = course_starts _ _ g.sound m (omega arith)
+  below : (m : ℕ) → m < n → Below (size (checked_nodes f) m) (course (checked_nodes f) m).start
+  below m h = course_starts _ _ f.grounds.sound m (omega arith)
 
-  pub start_sequence : (a b k : ℕ) (r : Outcome) → node (nodes_of c) n ≡ Sequence a b → k ≡ cut (size (nodes_of c) b)
-      → (get_or c.starts b Dead ≡ kept (get_or c.starts b Dead) → r ≡ kept (after_first k (get_or c.starts b Dead) (get_or c.starts a Dead))) → StartsWith r
-  start_sequence a b k r e z f =
-      let s = sound_as _ _ g.sound n (Sequence a b) e in
-      like_same _ _ _ _ r (size_sequence _ _ g.sound n a b e)
-      (ap (λ w. w.start) (course_sequence _ _ g.sound n a b e)
-      ∙ then_second_is (course (nodes_of c) b) (course (nodes_of c) a).start
-      ∙ ap (λ k. after_first k (course (nodes_of c) b).start (course (nodes_of c) a).start) (course_size _ _ g.sound b))
-      (like_sequence (size (nodes_of c) a) (size (nodes_of c) b) _ _ _ _ r (below a s.0.0) (before_n a s.0.0) (before_n b s.1.0)
-      (f (like_kept _ _ _ (before_n b s.1.0)) ∙ ap (λ j. kept (after_first j (get_or c.starts b Dead) (get_or c.starts a Dead))) z))
+  pub start_sequence : (a b k : ℕ) (r : Outcome) → node (checked_nodes f) n ≡ Sequence a b → k ≡ cut (size (checked_nodes f) b)
+      → (get_or starts b Dead ≡ kept (get_or starts b Dead) → r ≡ kept (after_first k (get_or starts b Dead) (get_or starts a Dead))) → StartsWith r
+  start_sequence a b k r e z v =
+      let s = sound_as _ _ f.grounds.sound n (Sequence a b) e in
+      like_same _ _ _ _ r (size_sequence _ _ f.grounds.sound n a b e)
+      (ap (λ w. w.start) (course_sequence _ _ f.grounds.sound n a b e)
+      ∙ then_second_is (course (checked_nodes f) b) (course (checked_nodes f) a).start
+      ∙ ap (λ k. after_first k (course (checked_nodes f) b).start (course (checked_nodes f) a).start) (course_size _ _ f.grounds.sound b))
+      (like_sequence (size (checked_nodes f) a) (size (checked_nodes f) b) _ _ _ _ r (below a s.0.0) (before_n a s.0.0) (before_n b s.1.0)
+      (v (like_kept _ _ _ (before_n b s.1.0)) ∙ ap (λ j. kept (after_first j (get_or starts b Dead) (get_or starts a Dead))) z))
 
-  product_start : (a b : ℕ) (r : Outcome) → a < n → b < n → size (nodes_of c) n ≡ size (nodes_of c) a * size (nodes_of c) b
-      → (course (nodes_of c) n).start ≡ meet (course (nodes_of c) b).size (course (nodes_of c) a).start (course (nodes_of c) b).start
-      → r ≡ kept (meet (cut (size (nodes_of c) b)) (get_or c.starts a Dead) (get_or c.starts b Dead)) → StartsWith r
-  product_start a b r ha hb z e f =
-      like_same _ _ _ _ r z (e ∙ ap (λ k. meet k (course (nodes_of c) a).start (course (nodes_of c) b).start) (course_size _ _ g.sound b))
-      (like_product (size (nodes_of c) a) (size (nodes_of c) b) _ _ _ _ r (below a ha) (below b hb) (before_n a ha) (before_n b hb) f)
+  product_start : (a b : ℕ) (r : Outcome) → a < n → b < n → size (checked_nodes f) n ≡ size (checked_nodes f) a * size (checked_nodes f) b
+      → (course (checked_nodes f) n).start ≡ meet (course (checked_nodes f) b).size (course (checked_nodes f) a).start (course (checked_nodes f) b).start
+      → r ≡ kept (meet (cut (size (checked_nodes f) b)) (get_or starts a Dead) (get_or starts b Dead)) → StartsWith r
+  product_start a b r ha hb z e v =
+      like_same _ _ _ _ r z (e ∙ ap (λ k. meet k (course (checked_nodes f) a).start (course (checked_nodes f) b).start) (course_size _ _ f.grounds.sound b))
+      (like_product (size (checked_nodes f) a) (size (checked_nodes f) b) _ _ _ _ r (below a ha) (below b hb) (before_n a ha) (before_n b hb) v)
 
-  pub start_product : (a b k : ℕ) (r : Outcome) → (node (nodes_of c) n ≡ Both a b) ⊎ (node (nodes_of c) n ≡ All a b) → k ≡ cut (size (nodes_of c) b)
-      → r ≡ kept (meet k (get_or c.starts a Dead) (get_or c.starts b Dead)) → StartsWith r
-  start_product a b k r (inl e) z f =
-      let s = sound_as _ _ g.sound n (Both a b) e in
-      product_start a b r s.0.0 s.1.0 (size_both _ _ g.sound n a b e) (ap (λ w. w.start) (course_both _ _ g.sound n a b e))
-      (f ∙ ap (λ j. kept (meet j (get_or c.starts a Dead) (get_or c.starts b Dead))) z)
-  start_product a b k r (inr e) z f =
-      let s = sound_as _ _ g.sound n (All a b) e in
-      product_start a b r s.0.0 s.1.0 (size_all _ _ g.sound n a b e) (course_all_start _ _ g.sound n a b e)
-      (f ∙ ap (λ j. kept (meet j (get_or c.starts a Dead) (get_or c.starts b Dead))) z)
+  pub start_product : (a b k : ℕ) (r : Outcome) → (node (checked_nodes f) n ≡ Both a b) ⊎ (node (checked_nodes f) n ≡ All a b) → k ≡ cut (size (checked_nodes f) b)
+      → r ≡ kept (meet k (get_or starts a Dead) (get_or starts b Dead)) → StartsWith r
+  start_product a b k r (inl e) z v =
+      let s = sound_as _ _ f.grounds.sound n (Both a b) e in
+      product_start a b r s.0.0 s.1.0 (size_both _ _ f.grounds.sound n a b e) (ap (λ w. w.start) (course_both _ _ f.grounds.sound n a b e))
+      (v ∙ ap (λ j. kept (meet j (get_or starts a Dead) (get_or starts b Dead))) z)
+  start_product a b k r (inr e) z v =
+      let s = sound_as _ _ f.grounds.sound n (All a b) e in
+      product_start a b r s.0.0 s.1.0 (size_all _ _ f.grounds.sound n a b e) (course_all_start _ _ f.grounds.sound n a b e)
+      (v ∙ ap (λ j. kept (meet j (get_or starts a Dead) (get_or starts b Dead))) z)
 
-  pub start_lap : (a : ℕ) (r : Outcome) → node (nodes_of c) n ≡ Lap a → r ≡ lap_start (get_or c.starts a Dead) → StartsWith r
-  start_lap a r e f =
-      let s = sound_as _ _ g.sound n (Lap a) e in
-      like_same _ _ _ _ r (size_lap _ _ g.sound n a e) (course_lap_start _ _ g.sound n a e)
-      (subst (λ x. Like (max 1 (size (nodes_of c) a)) (lap_start (course (nodes_of c) a).start) x) (sym f) (like_lap _ _ _ (before_n a s.0.0)))
+  pub start_lap : (a : ℕ) (r : Outcome) → node (checked_nodes f) n ≡ Lap a → r ≡ lap_start (get_or starts a Dead) → StartsWith r
+  start_lap a r e v =
+      let s = sound_as _ _ f.grounds.sound n (Lap a) e in
+      like_same _ _ _ _ r (size_lap _ _ f.grounds.sound n a e) (course_lap_start _ _ f.grounds.sound n a e)
+      (subst (λ x. Like (max 1 (size (checked_nodes f) a)) (lap_start (course (checked_nodes f) a).start) x) (sym v) (like_lap _ _ _ (before_n a s.0.0)))
 
 -- the start of one node more is in place
-pub starts_more : (c : Course) (n : ℕ) (r : Outcome) → n < length c.starts → Like (size (nodes_of c) n) (course (nodes_of c) n).start r → StartsKept c n
-    → (m : ℕ) → m < n + 1 → Like (size (nodes_of c) m) (course (nodes_of c) m).start (get_or (set c.starts n r) m Dead)
-starts_more c n r h l before_n m i = elim (cases_lt m n) [
-  | inl k ↦ subst (λ o. Like (size (nodes_of c) m) (course (nodes_of c) m).start o) (sym (get_or-set_other c.starts n m r Dead (λ q. omega arith))) (before_n m k)
+pub starts_more : (nodes : List Node) (starts : List Outcome) (n : ℕ) (r : Outcome) → n < length starts → Like (size nodes n) (course nodes n).start r → StartsKept nodes starts n
+    → (m : ℕ) → m < n + 1 → Like (size nodes m) (course nodes m).start (get_or (set starts n r) m Dead)
+starts_more nodes starts n r h l before_n m i = elim (cases_lt m n) [
+  | inl k ↦ subst (λ o. Like (size nodes m) (course nodes m).start o) (sym (get_or-set_other starts n m r Dead (λ q. omega arith))) (before_n m k)
   | inr k ↦
       let q : n ≡ m = omega arith in
-      subst (λ j. Like (size (nodes_of c) j) (course (nodes_of c) j).start (get_or (set c.starts n r) j Dead)) q
-      (subst (λ o. Like (size (nodes_of c) n) (course (nodes_of c) n).start o) (sym (get_or-set_same c.starts n r Dead h)) l)
+      subst (λ j. Like (size nodes j) (course nodes j).start (get_or (set starts n r) j Dead)) q
+      (subst (λ o. Like (size nodes n) (course nodes n).start o) (sym (get_or-set_same starts n r Dead h)) l)
 ]
-
--- what two courses over the same place share
-module _ (c d : Course) (file : c.file ≡ d.file) (nodes : c.nodes ≡ d.nodes) where
-  pub same_nodes : nodes_of c ≡ nodes_of d
-  same_nodes = ap₂ (λ f p. nodes_in f.now p.now) file nodes
-
-  pub same_grounds : c.letters ≡ d.letters → Grounded d → Grounded c
-  same_grounds letters g =
-      subst (λ f. Grounds f.now c.nodes.now (letters_of c)) (sym file)
-      (subst (λ p. Grounds d.file.now p.now (letters_of c)) (sym nodes)
-      (subst (λ l. Grounds d.file.now d.nodes.now l.now) (sym letters) g))
-
-  pub same_starts : c.starts ≡ d.starts → StartsKept d (length (nodes_of d)) → StartsKept c (length (nodes_of c))
-  same_starts starts k =
-      subst (λ s. (m : ℕ) → m < length (nodes_of c) → Like (size (nodes_of c) m) (course (nodes_of c) m).start (get_or s m Dead)) (sym starts)
-      (subst (λ ns. (m : ℕ) → m < length ns → Like (size ns m) (course ns m).start (get_or d.starts m Dead)) (sym same_nodes) k)

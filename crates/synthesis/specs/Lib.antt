@@ -3,6 +3,7 @@ pub mod Drawn
 pub mod Faults
 pub mod Fillable
 pub mod Fitting
+pub mod Kept
 pub mod Laws
 pub mod Made
 pub mod Marks
@@ -15,5 +16,6 @@ pub mod Ruled
 pub mod Singles
 pub mod Synthesis
 pub mod Table
+pub mod Unique
 pub mod Weighed
 pub mod Weights

@@ -94,10 +94,15 @@ pub(crate) fn draw(course: &Course, table: &mut [u16])
     requires room { (loop_of course.now).size * width (letters_of course.now) ≤ length table.old }
     ensures { Lines (loop_of course.now) (letters_of course.now) table.new (loop_of course.now).size }
 {
-    let width = course.letters.len() + LAST_COLUMNS;
+    let width = course.checked.letters.len() + LAST_COLUMNS;
     let mut line = [NO_ROW; MOST_LETTERS];
     for place in 0..course.size() {
         course.line(place, &mut line);
-        put(&line, course.letters.len(), place as usize * width, table);
+        put(
+            &line,
+            course.checked.letters.len(),
+            place as usize * width,
+            table,
+        );
     }
 }

@@ -61,15 +61,15 @@ fn weigh_drawn(
     ensures { Weighing (loop_of course.now) rows.new order.new owed.new span.new result }
 {
     draw(course, table);
-    let columns = columns_of(course.letters);
+    let columns = columns_of(course.checked.letters);
     let places = Drawn {
         cells: table,
         columns: &columns,
-        stride: (course.letters.len() + LAST_COLUMNS) as u16,
+        stride: (course.checked.letters.len() + LAST_COLUMNS) as u16,
         size: course.size(),
         boundary: course.boundary(),
     };
-    weigh_rows(&places, course.letters, owed, rows, order, span)
+    weigh_rows(&places, course.checked.letters, owed, rows, order, span)
 }
 
 /// Fills the table over four working memories, each with a number for each place.

@@ -73,7 +73,7 @@ fn lowers(
     ensures yes { result ≡ true → (q : ℕ) × Inserts (loop_of course.now) weighed.now.rows.now place (slice_index (letters_of course.now) j) q × (slice_index weighed.now.owed.now q + 1 ≡ due) }
     ensures nay { result ≡ false → (q : ℕ) → Inserts (loop_of course.now) weighed.now.rows.now place (slice_index (letters_of course.now) j) q → slice_index weighed.now.owed.now q + 1 ≢ due }
 {
-    if !may_insert(course.letters[j]) {
+    if !may_insert(course.checked.letters[j]) {
         return false;
     }
     match onward(course, line, weighed.rows, place, j) {
@@ -95,9 +95,9 @@ fn lead_at(course: &Course, weighed: &Weighed, line: &[u16; MOST_LETTERS], place
     if due == 0 {
         return NO_ROW;
     }
-    for j in 0..course.letters.len() {
+    for j in 0..course.checked.letters.len() {
         if lowers(course, line, weighed, place, j, due) {
-            return course.letters[j] as u16;
+            return course.checked.letters[j] as u16;
         }
     }
     NO_ROW
@@ -119,7 +119,7 @@ fn entry(
     requires column { column < width (letters_of course.now) }
     ensures { Entry (loop_of course.now) (letters_of course.now) weighed.now.rows.now place column result }
 {
-    let letters = course.letters.len();
+    let letters = course.checked.letters.len();
     if column < letters {
         return cell(course, line, weighed.rows, place, column);
     }
@@ -159,7 +159,7 @@ fn number_at(
     ensures written { Written (loop_of course.now) (letters_of course.now) weighed.now.rows.now weighed.now.order.now weighed.now.count index result }
     ensures lined { Lined (loop_of course.now) (letters_of course.now) weighed.now.order.now weighed.now.count line.new (index + 1) }
 {
-    let width = course.letters.len() + LAST_COLUMNS;
+    let width = course.checked.letters.len() + LAST_COLUMNS;
     if index >= weighed.count as usize * width {
         return NO_ROW;
     }

@@ -2,7 +2,7 @@ ghost use Rattle.std.specs.Prelude.{◌≡◌, ℕ, ◌<◌, List, length, Some}
 ghost use Rattle.property.specs.Nodes.{Choice, branches, node};
 ghost use Rattle.property.specs.Sizes.{size};
 ghost use Rattle.places.specs.Walks.{target};
-ghost use Rattle.synthesis.specs.Courses.{Grounded, Ready, PlaceOf, nodes_of};
+ghost use Rattle.synthesis.specs.Courses.{PlaceOf, nodes_of};
 ghost use Rattle.synthesis.specs.Members.{Found, FamilyGoesOn, OfFile, OffsetsKept, PartOf, SmallChoice, weight_kept};
 
 use crate::course::Course;
@@ -17,62 +17,69 @@ use property::node::{MOST_NODES, Node};
 impl Course<'_> {
     /// What a node counts in a family: a Choice 1, any other its size.
     fn places_of(&self, m: usize) -> u16
-        requires grounded { Grounded self.now }
-        requires within { m < length (nodes_of self.now) }
+        requires { m < length (nodes_of self.now) }
         ensures { result ≡ weight_kept self.now m }
     {
-        match self.nodes.nodes()[m] {
+        match self.checked.node(m) {
             Node::Choice(_, _) => 1,
-            _ => self.size_at(m),
+            _ => self.checked.size_at(m),
         }
     }
 
-    /// Writes the first place of each member of the family of `n`.
-    fn fill_offsets(&self, n: usize, offsets: &mut [u16; MOST_NODES])
-        requires grounded { Grounded self.now }
-        requires small { SmallChoice self.now n }
-        ensures { OffsetsKept self.now n offsets.new }
+    /// The first place of each member of the family of `n`.
+    #[tactic(auto, using(crate::proofs::Grounding::few_nodes))]
+    fn offsets(&self, n: usize) -> [u16; MOST_NODES]
+        requires { SmallChoice self.now n }
+        ensures { OffsetsKept self.now n result }
     {
         let mut marked = [false; MOST_NODES];
-        self.nodes.mark_family(self.file, n, &mut marked);
+        self.checked
+            .nodes
+            .mark_family(self.checked.file, n, &mut marked);
+        let marks = &marked[..n + 1];
+        let mut offsets = [0; MOST_NODES];
         let mut total = 0;
-        for m in 0..n + 1 {
+        for (m, is_member) in marks.iter().enumerate() {
             offsets[m] = total;
-            if marked[m] {
+            if *is_member {
                 total += self.places_of(m);
             }
         }
+        offsets
     }
 
     /// The member of the family of `n` that the place belongs to, and its first place.
+    #[tactic(auto, using(crate::proofs::Grounding::few_nodes))]
     fn member_at(&self, n: usize, place: u16) -> (usize, u16)
-        requires grounded { Grounded self.now }
         requires small { SmallChoice self.now n }
         requires inside { place < size (nodes_of self.now) n }
         ensures { Found self.now n place result.0 result.1 }
     {
         let mut marked = [false; MOST_NODES];
         marked[n] = true;
-        let mut first = self.size_at(n);
+        let mut first = self.checked.size_at(n);
+        // By index, since the sweep marks the earlier nodes that a member names as it goes.
         for m in (0..n + 1).rev() {
             if marked[m] {
                 first -= self.places_of(m);
                 if first <= place {
                     return (m, first);
                 }
-                self.nodes.mark_named(self.file, m, &mut marked);
+                self.checked
+                    .nodes
+                    .mark_named(self.checked.file, m, &mut marked);
             }
         }
-        (0, 0)
+        unreachable!()
     }
 
     /// Where the family goes on that comes to a member.
+    #[tactic(auto, using(crate::proofs::Grounding::few_nodes))]
     fn entered(&self, offsets: &[u16; MOST_NODES], m: usize) -> Outcome
-        requires ready { Ready self.now }
-        requires within { m < length (nodes_of self.now) }
+        requires { m < length (nodes_of self.now) }
         ensures { FamilyGoesOn self.now offsets.now (Some m) result }
     {
-        match self.nodes.nodes()[m] {
+        match self.checked.node(m) {
             Node::Choice(_, _) => Outcome::At(offsets[m]),
             _ => shifted(offsets[m], self.starts[m]),
         }
@@ -80,8 +87,7 @@ impl Course<'_> {
 
     /// Where the family goes on by a branch with the letter.
     fn entered_by(&self, offsets: &[u16; MOST_NODES], body: &[u8], letter: Letter) -> Outcome
-        requires ready { Ready self.now }
-        requires within { OfFile self.now (target (branches body.now) letter) }
+        requires { OfFile self.now (target (branches body.now) letter) }
         ensures { FamilyGoesOn self.now offsets.now (target (branches body.now) letter) result }
     {
         match target(body, letter) {
@@ -98,19 +104,17 @@ impl Course<'_> {
         place: u16,
         out: &mut [Outcome; MOST_LETTERS],
     ) -> Option<(usize, u16)>
-        requires ready { Ready self.now }
         requires place { PlaceOf self.now n place }
         requires choice { (bs : List (ℕ × ℕ)) × (node (nodes_of self.now) n ≡ Choice bs) }
         ensures { PartOf self.now n place out.new result }
     {
         let (m, first) = self.member_at(n, place);
-        match self.nodes.nodes()[m] {
+        match self.checked.node(m) {
             Node::Choice(start, count) => {
-                let mut offsets = [0; MOST_NODES];
-                self.fill_offsets(n, &mut offsets);
-                let body = branches_at(self.file, start, count);
-                for j in 0..self.letters.len() {
-                    out[j] = self.entered_by(&offsets, body, self.letters[j]);
+                let offsets = self.offsets(n);
+                let body = branches_at(self.checked.file, start, count);
+                for (j, letter) in self.checked.letters.iter().enumerate() {
+                    out[j] = self.entered_by(&offsets, body, *letter);
                 }
                 None
             }

@@ -1,21 +1,20 @@
-ghost use Rattle.std.specs.Prelude.{◌≡◌, ℕ, ◌^◌, ◌<◌, ◌≤◌, length, if◌then◌else◌, Some, nat_eq, slice_index, slice_index_or};
-ghost use Rattle.letters.specs.Alphabets.{most_letters};
+ghost use Rattle.std.specs.Prelude.{◌≡◌, ℕ, ◌^◌, ◌<◌, ◌≤◌, length, if◌then◌else◌, Some, nat_eq, slice_index};
 ghost use Rattle.property.specs.Checks.{most_nodes};
 ghost use Rattle.property.specs.Nodes.{branches};
 ghost use Rattle.property.specs.Sizes.{size};
 ghost use Rattle.places.specs.Walks.{target};
 ghost use Rattle.places.specs.declared.outcome.Outcome.TheVariants.{Dead};
-ghost use Rattle.synthesis.specs.Courses.{Grounded, StartsKept, OnesKept, Ready, Row, bit, course, nodes_of, letters_of};
+ghost use Rattle.synthesis.specs.Courses.{OnesKept, Row, StartsKept, bit, checked_nodes, course, nodes_of};
 ghost use Rattle.synthesis.specs.Outcomes.{leads_on};
 ghost use Rattle.synthesis.specs.Singles.{is_at, is_done, ends_at};
 
-use crate::course::Course;
+use crate::course::{CheckedFile, Course};
 use letters::alphabet::MOST_LETTERS;
 use letters::letter::Letter;
 use places::outcome::Outcome;
 use property::branches::branches_at;
-use property::node::Node;
-use records::body::BRANCH_BYTES;
+use property::node::{MOST_NODES, Node};
+use records::body::{BRANCH_BYTES, two_bytes};
 
 /// The node that the branch with the letter names.
 pub(crate) fn target(body: &[u8], letter: Letter) -> Option<usize>
@@ -23,7 +22,7 @@ pub(crate) fn target(body: &[u8], letter: Letter) -> Option<usize>
 {
     for branch in body.chunks_exact(BRANCH_BYTES) {
         if branch[0] == letter {
-            return Some(branch[1] as usize + 256 * branch[2] as usize);
+            return Some(two_bytes(branch[1], branch[2]));
         }
     }
     None
@@ -37,113 +36,107 @@ fn is_set(bits: u32, j: usize) -> bool
     (bits >> j) & 1 == 1
 }
 
-impl Course<'_> {
-    /// Whether the branches lead by the letter to a node whose walk is done where it starts.
-    fn is_ending(&self, body: &[u8], letter: Letter) -> bool
-        requires { (m : ℕ) → target (branches body.now) letter ≡ Some m → m < most_nodes }
-        ensures { result ≡ ends_at self.now.starts (target (branches body.now) letter) }
-    {
-        match target(body, letter) {
-            None => false,
-            Some(m) => match self.starts[m] {
-                Outcome::Done => true,
-                _ => false,
-            },
-        }
-    }
+/// Where a letter leads, if it leads on to `on` or else nowhere.
+fn led(leads_on: bool, on: Outcome) -> Outcome
+    ensures { result ≡ (if leads_on then on else Dead) }
+{
+    if leads_on { on } else { Outcome::Dead }
+}
 
+/// Whether the branches lead by the letter to a node whose walk is done where it starts.
+fn is_ending(starts: &[Outcome; MOST_NODES], body: &[u8], letter: Letter) -> bool
+    requires { (m : ℕ) → target (branches body.now) letter ≡ Some m → m < most_nodes }
+    ensures { result ≡ ends_at starts.now (target (branches body.now) letter) }
+{
+    target(body, letter).is_some_and(|m| starts[m] == Outcome::Done)
+}
+
+/// The letters that lead on from the only place of a Lap, from where its node starts and the letters of that.
+fn ones_in_lap(start: Outcome, ones: u32) -> u32
+    ensures { result ≡ (if is_at start then ones else 0) }
+{
+    match start {
+        Outcome::At(_) => ones,
+        Outcome::Dead | Outcome::Done => 0,
+    }
+}
+
+/// The letters that lead on from the only place of a Sequence, from those of its nodes; its second has `size` places and
+/// starts with `start`.
+fn ones_in_sequence(size: u16, start: Outcome, first: u32, second: u32) -> u32
+    ensures { result ≡ (if nat_eq size 1 then second else (if is_done start then first else 0)) }
+{
+    if size == 1 {
+        return second;
+    }
+    match start {
+        Outcome::Done => first,
+        Outcome::Dead | Outcome::At(_) => 0,
+    }
+}
+
+impl CheckedFile<'_> {
     /// The letters by which the branches lead to a node whose walk is done where it starts.
-    fn ending_letters(&self, body: &[u8]) -> u32
-        requires few { length (letters_of self.now) ≤ most_letters }
-        requires named { (l m : ℕ) → target (branches body.now) l ≡ Some m → m < most_nodes }
-        ensures bits { (j : ℕ) → j < length (letters_of self.now) → bit result j ≡ ends_at self.now.starts (target (branches body.now) (slice_index (letters_of self.now) j)) }
-        ensures below { result < 2 ^ length (letters_of self.now) }
+    fn ending_letters(&self, starts: &[Outcome; MOST_NODES], body: &[u8]) -> u32
+        requires { (l m : ℕ) → target (branches body.now) l ≡ Some m → m < most_nodes }
+        ensures { (j : ℕ) → j < length self.now.letters.now → bit result j ≡ ends_at starts.now (target (branches body.now) (slice_index self.now.letters.now j)) }
     {
         let mut bits = 0;
-        for j in (0..self.letters.len()).rev() {
-            bits = 2 * bits + self.is_ending(body, self.letters[j]) as u32;
+        for (j, letter) in self.letters.iter().enumerate() {
+            if is_ending(starts, body, *letter) {
+                bits |= 1 << j;
+            }
         }
         bits
     }
 
-    /// The letters that lead on from the only place of a Sequence.
-    fn ones_in_sequence(&self, a: usize, b: usize) -> u32
-        requires grounded { Grounded self.now }
-        requires first { a < length (nodes_of self.now) }
-        requires second { b < length (nodes_of self.now) }
-        ensures { result ≡ (if nat_eq (size (nodes_of self.now) b) 1 then slice_index self.now.ones b else (if is_done (slice_index_or self.now.starts b Dead) then slice_index self.now.ones a else 0)) }
-    {
-        if self.size_at(b) == 1 {
-            return self.ones[b];
-        }
-        match self.starts[b] {
-            Outcome::Done => self.ones[a],
-            _ => 0,
-        }
-    }
-
-    /// The letters that lead on from the only place of a Lap.
-    fn ones_in_lap(&self, a: usize) -> u32
-        requires { a < length (nodes_of self.now) }
-        ensures { result ≡ (if is_at (slice_index_or self.now.starts a Dead) then slice_index self.now.ones a else 0) }
-    {
-        match self.starts[a] {
-            Outcome::At(_) => self.ones[a],
-            _ => 0,
-        }
-    }
-
     /// The letters that lead on from the only place of a node, if it has only one.
-    fn ones_of(&self, n: usize) -> u32
-        requires grounded { Grounded self.now }
-        requires within { n < length (nodes_of self.now) }
-        requires starts { StartsKept self.now (length (nodes_of self.now)) }
-        requires kept { OnesKept self.now n }
-        ensures { size (nodes_of self.now) n ≡ 1 → (j : ℕ) → j < length (letters_of self.now) → bit result j ≡ leads_on ((course (nodes_of self.now) n).step 0 (slice_index (letters_of self.now) j)) }
+    fn ones_of(&self, starts: &[Outcome; MOST_NODES], ones: &[u32; MOST_NODES], n: usize) -> u32
+        requires within { n < length (checked_nodes self.now) }
+        requires starts { StartsKept (checked_nodes self.now) starts.now (length (checked_nodes self.now)) }
+        requires kept { OnesKept (checked_nodes self.now) self.now.letters.now ones.now n }
+        ensures { size (checked_nodes self.now) n ≡ 1 → (j : ℕ) → j < length self.now.letters.now → bit result j ≡ leads_on ((course (checked_nodes self.now) n).step 0 (slice_index self.now.letters.now j)) }
     {
-        let node = self.nodes.nodes()[n];
-        match node {
+        match self.node(n) {
             Node::Nothing => 0,
-            Node::Choice(start, count) => self.ending_letters(branches_at(self.file, start, count)),
-            Node::Sequence(a, b) => self.ones_in_sequence(a, b),
-            Node::Both(a, b) | Node::All(a, b) => self.ones[a] & self.ones[b],
-            Node::Lap(a) => self.ones_in_lap(a),
+            Node::Choice(start, count) => {
+                self.ending_letters(starts, branches_at(self.file, start, count))
+            }
+            Node::Sequence(a, b) => ones_in_sequence(self.size_at(b), starts[b], ones[a], ones[b]),
+            Node::Both(a, b) | Node::All(a, b) => ones[a] & ones[b],
+            Node::Lap(a) => ones_in_lap(starts[a], ones[a]),
         }
     }
 
-    /// Works out which letters lead on from the only place of each node of size 1.
-    pub(crate) fn fill_ones(&mut self)
-        requires grounded { Grounded self.old }
-        requires starts { StartsKept self.old (length (nodes_of self.old)) }
-        ensures ones { OnesKept self.new (length (nodes_of self.new)) }
-        ensures file { self.new.file ≡ self.old.file }
-        ensures nodes { self.new.nodes ≡ self.old.nodes }
-        ensures letters { self.new.letters ≡ self.old.letters }
-        ensures starts { self.new.starts ≡ self.old.starts }
+    /// Which letters lead on from the only place of each node of size 1, from where the walks start.
+    pub(crate) fn ones(&self, starts: &[Outcome; MOST_NODES]) -> [u32; MOST_NODES]
+        requires { StartsKept (checked_nodes self.now) starts.now (length (checked_nodes self.now)) }
+        ensures { OnesKept (checked_nodes self.now) self.now.letters.now result (length (checked_nodes self.now)) }
     {
-        for n in 0..self.nodes.nodes().len() {
-            let ones = self.ones_of(n);
-            self.ones[n] = ones;
+        let mut ones = [0; MOST_NODES];
+        // By index, since a node's letters are read from those of the earlier ones in the array that they are written to.
+        for n in 0..self.count() {
+            ones[n] = self.ones_of(starts, &ones, n);
         }
+        ones
     }
+}
 
+impl Course<'_> {
     /// Where the letters lead from the only place of a node.
+    #[tactic(auto, using(crate::proofs::Grounding::few_nodes))]
     pub(crate) fn row_of_one(&self, n: usize, out: &mut [Outcome; MOST_LETTERS])
-        requires ready { Ready self.now }
         requires within { n < length (nodes_of self.now) }
         requires one { size (nodes_of self.now) n ≡ 1 }
         ensures { Row self.now n 0 out.new }
     {
-        let on = match self.nodes.nodes()[n] {
+        let on = match self.checked.node(n) {
             Node::Lap(_) | Node::All(_, _) => Outcome::At(0),
             _ => Outcome::Done,
         };
-        for j in 0..self.letters.len() {
-            out[j] = if is_set(self.ones[n], j) {
-                on
-            } else {
-                Outcome::Dead
-            };
+        let ones = self.ones[n];
+        for (j, outcome) in out.iter_mut().enumerate() {
+            *outcome = led(is_set(ones, j), on);
         }
     }
 }

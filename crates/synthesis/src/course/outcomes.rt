@@ -12,11 +12,7 @@ use property::sizes::MOST_SIZE;
 fn kept_place(place: u32) -> u16
     ensures { result ≡ min place most_size }
 {
-    if place > MOST_SIZE as u32 {
-        MOST_SIZE
-    } else {
-        place as u16
-    }
+    place.min(u32::from(MOST_SIZE)) as u16
 }
 
 /// An outcome with its place further on.
@@ -24,8 +20,8 @@ pub(crate) fn shifted(by: u16, outcome: Outcome) -> Outcome
     ensures { result ≡ kept (shift by outcome) }
 {
     match outcome {
-        Outcome::At(place) => Outcome::At(kept_place(by as u32 + place as u32)),
-        _ => outcome,
+        Outcome::At(place) => Outcome::At(kept_place(u32::from(by) + u32::from(place))),
+        Outcome::Dead | Outcome::Done => outcome,
     }
 }
 
@@ -47,7 +43,7 @@ pub(crate) fn met(size: u16, first: Outcome, second: Outcome) -> Outcome
     match (first, second) {
         (Outcome::Done, Outcome::Done) => Outcome::Done,
         (Outcome::At(p), Outcome::At(q)) => {
-            Outcome::At(kept_place(p as u32 * size as u32 + q as u32))
+            Outcome::At(kept_place(u32::from(p) * u32::from(size) + u32::from(q)))
         }
         _ => Outcome::Dead,
     }
@@ -64,34 +60,17 @@ pub(crate) fn lapped(start: Outcome, outcome: Outcome) -> Outcome
     }
 }
 
-/// Shifts each outcome.
-pub(crate) fn shift_all(by: u16, out: &mut [Outcome; MOST_LETTERS])
-    ensures { (j : ℕ) → j < length out.new → slice_index_or out.new j Dead ≡ kept (shift by (slice_index_or out.old j Dead)) }
+/// Changes each outcome by the step.
+pub(crate) fn change_all<F: Fn(Outcome) -> Outcome>(out: &mut [Outcome; MOST_LETTERS], step: F)
+    requires { F.IsAlwaysCallable step }
+    ensures { (j : ℕ) → j < length out.new → F.post step (slice_index_or out.old j Dead) (slice_index_or out.new j Dead) }
 {
     for outcome in out.iter_mut() {
-        *outcome = shifted(by, *outcome);
+        *outcome = step(*outcome);
     }
 }
 
-/// Takes each outcome of a Sequence's first node on to the Sequence.
-pub(crate) fn after_first_all(size: u16, second: Outcome, out: &mut [Outcome; MOST_LETTERS])
-    ensures { second ≡ kept second → (j : ℕ) → j < length out.new → slice_index_or out.new j Dead ≡ kept (after_first size second (slice_index_or out.old j Dead)) }
-{
-    for outcome in out.iter_mut() {
-        *outcome = after_first(size, second, *outcome);
-    }
-}
-
-/// Takes each outcome of a Lap's node on to the Lap.
-pub(crate) fn lap_all(start: Outcome, out: &mut [Outcome; MOST_LETTERS])
-    ensures { (j : ℕ) → j < length out.new → slice_index_or out.new j Dead ≡ lapped start (slice_index_or out.old j Dead) }
-{
-    for outcome in out.iter_mut() {
-        *outcome = lapped(start, *outcome);
-    }
-}
-
-/// Joins the outcomes of two nodes that stand together.
+/// Joins the outcomes of two nodes that stand together, the second of `size` places.
 pub(crate) fn meet_all(
     size: u16,
     out: &mut [Outcome; MOST_LETTERS],
@@ -99,7 +78,7 @@ pub(crate) fn meet_all(
 )
     ensures { (j : ℕ) → j < length out.new → slice_index_or out.new j Dead ≡ kept (meet size (slice_index_or out.old j Dead) (slice_index_or others.now j Dead)) }
 {
-    for j in 0..out.len() {
-        out[j] = met(size, out[j], others[j]);
+    for (j, outcome) in out.iter_mut().enumerate() {
+        *outcome = met(size, *outcome, others[j]);
     }
 }

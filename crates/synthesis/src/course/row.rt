@@ -1,11 +1,11 @@
 ghost use Rattle.std.specs.Prelude.{◌≡◌, ◌+◌, ◌<◌, ◌≤◌, min};
 ghost use Rattle.property.specs.Sized.{most_size};
 ghost use Rattle.property.specs.Traces.{last_node};
-ghost use Rattle.synthesis.specs.Courses.{Ready, PlaceOf, Row, letters_of, loop_of, nodes_of};
+ghost use Rattle.synthesis.specs.Courses.{PlaceOf, Row, letters_of, loop_of, nodes_of};
 ghost use Rattle.synthesis.specs.Drawn.{Line, cell_of};
 
 use crate::course::Course;
-use crate::course::outcomes::{after_first_all, lap_all, meet_all, shift_all};
+use crate::course::outcomes::{after_first, change_all, lapped, meet_all, shifted};
 use letters::alphabet::MOST_LETTERS;
 use places::outcome::Outcome;
 use property::node::Node;
@@ -17,39 +17,38 @@ fn cell_of(outcome: Outcome) -> u16
 {
     match outcome {
         Outcome::At(place) => place,
-        _ => NO_ROW,
+        Outcome::Dead | Outcome::Done => NO_ROW,
     }
 }
 
 impl Course<'_> {
     /// Where the letters lead from a place of a node.
     fn row(&self, n: usize, place: u16, out: &mut [Outcome; MOST_LETTERS])
-        requires ready { Ready self.now }
-        requires place { PlaceOf self.now n place }
+        requires { PlaceOf self.now n place }
         ensures { Row self.now n place out.new }
     {
-        if self.size_at(n) == 1 {
+        if self.checked.size_at(n) == 1 {
             return self.row_of_one(n, out);
         }
-        let node = self.nodes.nodes()[n];
-        match node {
+        match self.checked.node(n) {
             Node::Nothing => {}
             Node::Choice(_, _) => {
                 if let Some((m, offset)) = self.row_of_choice(n, place, out) {
                     self.row(m, place - offset, out);
-                    shift_all(offset, out);
+                    change_all(out, |outcome| shifted(offset, outcome));
                 }
             }
             Node::Sequence(a, b) => {
-                let size = self.size_at(b);
+                let size = self.checked.size_at(b);
                 if place < size {
                     return self.row(b, place, out);
                 }
                 self.row(a, place - size, out);
-                after_first_all(size, self.starts[b], out);
+                let second = self.starts[b];
+                change_all(out, |first| after_first(size, second, first));
             }
             Node::Both(a, b) | Node::All(a, b) => {
-                let size = self.size_at(b);
+                let size = self.checked.size_at(b);
                 let mut others = [Outcome::Dead; MOST_LETTERS];
                 self.row(a, place / size, out);
                 self.row(b, place % size, &mut others);
@@ -57,51 +56,47 @@ impl Course<'_> {
             }
             Node::Lap(a) => {
                 self.row(a, place, out);
-                lap_all(self.starts[a], out);
+                let start = self.starts[a];
+                change_all(out, |outcome| lapped(start, outcome));
             }
         }
     }
 
     /// The number of the property's node.
     fn root(&self) -> usize
-        requires { Ready self.now }
         ensures { result ≡ last_node (nodes_of self.now) }
     {
-        self.nodes.nodes().len() - 1
+        self.checked.count() - 1
     }
 
     /// How many places the property has, as its size is kept.
     pub(crate) fn size(&self) -> u16
-        requires { Ready self.now }
         ensures { result ≡ min (loop_of self.now).size (most_size + 1) }
     {
-        self.size_at(self.root())
+        self.checked.size_at(self.root())
     }
 
     /// The boundary of the property's loop.
     pub(crate) fn boundary(&self) -> u16
-        requires ready { Ready self.now }
-        requires few { (loop_of self.now).size ≤ most_size }
+        requires { (loop_of self.now).size ≤ most_size }
         ensures { result ≡ (loop_of self.now).boundary }
     {
-        let start = self.starts[self.root()];
-        match start {
+        match self.starts[self.root()] {
             Outcome::At(place) => place,
-            _ => 0,
+            Outcome::Dead | Outcome::Done => unreachable!(),
         }
     }
 
     /// The place that each letter leads to from a place of the property's loop, or `NO_ROW`.
     pub(crate) fn line(&self, place: u16, cells: &mut [u16; MOST_LETTERS])
-        requires ready { Ready self.now }
         requires few { (loop_of self.now).size ≤ most_size }
         requires inside { place < (loop_of self.now).size }
         ensures { Line (loop_of self.now) (letters_of self.now) place cells.new }
     {
         let mut out = [Outcome::Dead; MOST_LETTERS];
         self.row(self.root(), place, &mut out);
-        for j in 0..self.letters.len() {
-            cells[j] = cell_of(out[j]);
+        for (j, cell) in cells.iter_mut().enumerate() {
+            *cell = cell_of(out[j]);
         }
     }
 }

@@ -4,19 +4,15 @@ use Rattle.synthesis.proofs.Roots.{root_place, drawn_none, drawn_more}
 use Rattle.synthesis.proofs.course.Course.line.Goals as goal
 
 pub row-requires : goal.row-requires
-row-requires c = record {
-  ready = c.requires.ready;
-  place = subst (λ n. PlaceOf c.args.self.now n c.args.place) (sym c.root.ensures) (root_place c.args.self.now c.requires.ready _ c.requires.few c.requires.inside);
-}
+row-requires c = subst (λ n. PlaceOf c.args.self.now n c.args.place) (sym c.root.ensures) (root_place c.args.self.now _ c.requires.few c.requires.inside)
 
 pub loop-j-init : goal.loop-j-init
-loop-j-init c = drawn_none c.args.self.now c.requires.ready _ _ c.told-cells
+loop-j-init c = drawn_none c.args.self.now _ _ c.told-cells
 
 pub loop-j-preserved : goal.loop-j-preserved
 loop-j-preserved c =
-    drawn_more c.args.self.now c.requires.ready _ _ _ _ _ _ c.root.ensures
-    (root_place c.args.self.now c.requires.ready _ c.requires.few c.requires.inside)
-    c.row.ensures c.loop-j-test.true c.cell_of.ensures c.loop-j.invariant
+    drawn_more c.args.self.now _ _ _ _ _ _ c.root.ensures (root_place c.args.self.now _ c.requires.few c.requires.inside) c.row.ensures c.loop-j-test.true c.cell_of.ensures
+    c.loop-j.invariant
 
 pub returns : goal.returns
-returns c j h = c.loop-j.invariant.each j (omega (arith, h, c.loop-j-test.false))
+returns c j h = c.loop-j.invariant.each j (omega (arith, h, c.args.self.now.checked.grounds.few_letters, c.loop-j-test.false)) h

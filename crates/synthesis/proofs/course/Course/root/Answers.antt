@@ -1,9 +1,8 @@
-use Rattle.std.proofs.Common.{length, ap, arith}
-use Rattle.synthesis.proofs.Lines.{many}
+use Rattle.std.proofs.Common.{arith}
 use Rattle.synthesis.proofs.course.Course.root.Goals as goal
 
 pub overflow_sub-result : goal.overflow_sub-result
-overflow_sub-result c = omega (arith, c.requires.grounded.sound.some, many c.args.self.now, ap length c.nodes.ensures.value)
+overflow_sub-result c = omega (arith, c.args.self.now.checked.grounds.sound.some, c.count.ensures)
 
 pub returns : goal.returns
-returns c = omega (arith, many c.args.self.now, ap length c.nodes.ensures.value)
+returns c = omega (arith, c.count.ensures)

@@ -3,56 +3,35 @@ use Rattle.places.specs.declared.outcome.Outcome.TheVariants.{Dead}
 use Rattle.property.specs.Nodes.{branches}
 use Rattle.synthesis.specs.Courses.{course, letters_of, nodes_of}
 use Rattle.synthesis.proofs.Belonging.{choice_at, set_more, small_choice, stands, whole_of_other}
-use Rattle.synthesis.proofs.Grounding.{few_nodes, inside}
 use Rattle.synthesis.proofs.course.Course.row_of_choice.Goals as goal
 
 pub member_at-m-requires : goal.member_at-m-requires
-member_at-m-requires c = record { grounded = c.requires.ready.grounded; small = small_choice _ _ _ c.requires.place c.requires.choice; inside = c.requires.place.inside }
+member_at-m-requires c = record { small = small_choice _ _ _ c.requires.place c.requires.choice; inside = c.requires.place.inside }
 
-pub fill_offsets-requires : goal.fill_offsets-requires
-fill_offsets-requires c = record { grounded = c.requires.ready.grounded; small = small_choice _ _ _ c.requires.place c.requires.choice }
+pub node-requires : goal.node-requires
+node-requires c = (stands _ _ _ c.requires.place c.requires.choice _ _ c.member_at-m.ensures).within
 
-pub offset_bounds-nodes-m : goal.offset_bounds-nodes-m
-offset_bounds-nodes-m c =
-    let s = stands _ c.requires.ready _ _ c.requires.place c.requires.choice _ _ c.member_at-m.ensures in
-    omega (arith, few_nodes c.args.self.now.file.now c.args.self.now.nodes.now, s.within)
-
-pub bounds : goal.bounds
-bounds c =
-    let s = stands _ c.requires.ready _ _ c.requires.place c.requires.choice _ _ c.member_at-m.ensures in
-    inside c.args.self.now.file.now c.args.self.now.nodes.now _ _ c.nodes.ensures.value s.within
-
-pub bounds-nodes-m : goal.bounds-nodes-m
-bounds-nodes-m c =
-    let s = stands _ c.requires.ready _ _ c.requires.place c.requires.choice _ _ c.member_at-m.ensures in
-    inside c.args.self.now.file.now c.args.self.now.nodes.now _ _ c.nodes.ensures.value s.within
-
-pub bounds-nodes-m-in-Choice-1 : goal.bounds-nodes-m-in-Choice-1
-bounds-nodes-m-in-Choice-1 c =
-    let s = stands _ c.requires.ready _ _ c.requires.place c.requires.choice _ _ c.member_at-m.ensures in
-    inside c.args.self.now.file.now c.args.self.now.nodes.now _ _ c.nodes.ensures.value s.within
+pub offsets-offsets-requires : goal.offsets-offsets-requires
+offsets-offsets-requires c = small_choice _ _ _ c.requires.place c.requires.choice
 
 pub entered_by-requires : goal.entered_by-requires
 entered_by-requires c =
-    let s = stands _ c.requires.ready _ _ c.requires.place c.requires.choice _ _ c.member_at-m.ensures in
-    record {
-      ready = c.requires.ready;
-      within = s.names (branches c.branches_at-body.result.now) (choice_at c.args.self.now c.nodes.result.now c.member_at-m.result.0 _ _ c.branches_at-body.result.now c.nodes.ensures.value c.in-Choice.is c.branches_at-body.ensures) (get_or (letters_of c.args.self.now) c.loop-j.j 0);
-    }
+    let s = stands _ _ _ c.requires.place c.requires.choice _ _ c.member_at-m.ensures in
+    s.names (branches c.branches_at-body.result.now) (choice_at c.args.self.now c.member_at-m.result.0 _ c.node.ensures _ _ c.branches_at-body.result.now c.in-Choice.is c.branches_at-body.ensures) (get_or (letters_of c.args.self.now) c.loop-j.j 0)
 
 pub loop-j-init : goal.loop-j-init
 loop-j-init c = (λ i h. absurd (omega arith), c.told-out)
 
 pub loop-j-preserved : goal.loop-j-preserved
 loop-j-preserved c =
-    let s = stands _ c.requires.ready _ _ c.requires.place c.requires.choice _ _ c.member_at-m.ensures in (
+    let s = stands _ _ _ c.requires.place c.requires.choice _ _ c.member_at-m.ensures in (
       set_more Dead (λ k. (course (nodes_of c.args.self.now) c.args.n).step c.args.place (get_or (letters_of c.args.self.now) k 0)) c.loop-j.out c.loop-j.j c.entered_by.result
-          (omega (arith, c.requires.ready.grounded.few_letters, c.loop-j.invariant.1)) c.loop-j.invariant.0
-          (s.leads _ c.fill_offsets.ensures (branches c.branches_at-body.result.now) (choice_at c.args.self.now c.nodes.result.now c.member_at-m.result.0 _ _ c.branches_at-body.result.now c.nodes.ensures.value c.in-Choice.is c.branches_at-body.ensures) (get_or (letters_of c.args.self.now) c.loop-j.j 0) c.entered_by.result c.entered_by.ensures),
+          (omega (arith, c.args.self.now.checked.grounds.few_letters, c.loop-j.invariant.1)) c.loop-j.invariant.0
+          (s.leads _ c.offsets-offsets.ensures (branches c.branches_at-body.result.now) (choice_at c.args.self.now c.member_at-m.result.0 _ c.node.ensures _ _ c.branches_at-body.result.now c.in-Choice.is c.branches_at-body.ensures) (get_or (letters_of c.args.self.now) c.loop-j.j 0) c.entered_by.result c.entered_by.ensures),
       length-set c.loop-j.out c.loop-j.j c.entered_by.result ∙ c.loop-j.invariant.1,
     )
 
 pub returns-in_default : goal.returns-in_default
 returns-in_default c =
-    let s = stands _ c.requires.ready _ _ c.requires.place c.requires.choice _ _ c.member_at-m.ensures in
-    s.whole (whole_of_other c.args.self.now c.nodes.result.now c.member_at-m.result.0 c.nodes.ensures.value c.in_default.not-Choice)
+    let s = stands _ _ _ c.requires.place c.requires.choice _ _ c.member_at-m.ensures in
+    s.whole (whole_of_other c.args.self.now c.member_at-m.result.0 _ c.node.ensures c.in_default.not-Choice)

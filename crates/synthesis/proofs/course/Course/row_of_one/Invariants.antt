@@ -8,5 +8,5 @@ use Rattle.synthesis.proofs.course.Course.row_of_one.Given as goal
 abbrev pub invariant-loop-j : goal.invariant-loop-j
 invariant-loop-j l =
     (l.on ≡ cond (is_loop (node (nodes_of l.self) l.n)) (At 0) Done)
-    × ((k : ℕ) → k < l.j → get_or l.out k Dead ≡ (course (nodes_of l.self) l.n).step 0 (get_or (letters_of l.self) k 0))
+    × ((k : ℕ) → k < l.j → k < length (letters_of l.self) → get_or l.out k Dead ≡ (course (nodes_of l.self) l.n).step 0 (get_or (letters_of l.self) k 0))
     × (length l.out ≡ most_letters)

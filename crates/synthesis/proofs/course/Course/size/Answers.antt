@@ -6,10 +6,10 @@ use Rattle.synthesis.proofs.Roots.{root_within, root_size}
 use Rattle.synthesis.proofs.course.Course.size.Goals as goal
 
 pub size_at-requires : goal.size_at-requires
-size_at-requires c = record { grounded = c.requires.grounded; within = omega (arith, root_within c.args.self.now c.requires, c.root.ensures) }
+size_at-requires c = omega (arith, root_within c.args.self.now, c.root.ensures)
 
 pub returns : goal.returns
 returns c =
     c.size_at.ensures
     ∙ ap (λ n. cut (size (nodes_of c.args.self.now) n)) c.root.ensures
-    ∙ ap cut (sym (root_size c.args.self.now c.requires))
+    ∙ ap cut (sym (root_size c.args.self.now))

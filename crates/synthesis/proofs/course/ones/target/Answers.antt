@@ -21,7 +21,8 @@ returns-then-branch-letter c =
     let x = c.in-Some.branch.now in
     sym (c.loop-branch.invariant.3
     ∙ target_step c.loop-branch.branch-iterator.rest.now x left c.args.letter s.1.0 (s.1.1 ∙ c.loop-branch.invariant.2)
-    ∙ ap (λ (t : Bool). cond t (Some (two_bytes x 1)) (target (branches left) c.args.letter)) (eq-eqb (get_or x 0 0) c.args.letter c.if-branch-letter.true))
+    ∙ ap (λ (t : Bool). cond t (Some (two_bytes x 1)) (target (branches left) c.args.letter)) (eq-eqb (get_or x 0 0) c.args.letter c.if-branch-letter.true)
+    ∙ ap Some (sym c.two_bytes.ensures))
 
 pub loop-branch-preserved : goal.loop-branch-preserved
 loop-branch-preserved c =

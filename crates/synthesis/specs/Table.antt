@@ -55,8 +55,3 @@ pub record Tells (r : Loop) (letters table : List ℕ) (count : ℕ) : Type 0 wh
 -- each number of the memory is v
 abbrev pub AllAre : ℕ → List ℕ → Type 0
 AllAre v m = (k : ℕ) → k < length m → slice_index m k ≡ v
-
--- what filling answers, and what then stands in the table memory: the number of rows, or none where a place is stranded
-abbrev pub Filled : Loop → List ℕ → List ℕ → Option ℕ → Type 0
-Filled r letters table None = Stranded r × AllAre no_row table
-Filled r letters table (Some count) = Tells r letters table count

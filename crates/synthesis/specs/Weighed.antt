@@ -1,7 +1,7 @@
 -- The rows, with what weighs on their places.
 use Rattle.std.specs.Prelude.{ℕ, List, Some, None, Option}
 use Rattle.places.specs.Loops.{Loop}
-use Rattle.synthesis.specs.declared.fill.Weighed.{Weighed}
+use Rattle.synthesis.specs.declared.weighed.Weighed.{Weighed}
 use Rattle.synthesis.specs.Numbers.{Rows}
 use Rattle.synthesis.specs.Weights.{Owes, Spans, Stranded}
 

@@ -4,10 +4,10 @@
 mod course;
 mod drawn;
 pub mod fault;
-mod fill;
 mod make;
 mod rows;
 pub mod synthesize;
 pub mod theorems;
+mod weighed;
 mod weights;
 mod write;

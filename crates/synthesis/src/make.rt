@@ -10,7 +10,7 @@ ghost use Rattle.synthesis.specs.Weighed.{Weighing};
 
 use crate::course::Course;
 use crate::drawn::{Drawn, columns_of, draw};
-use crate::fill::Weighed;
+use crate::weighed::Weighed;
 use crate::rows::{clear, mark_live, number};
 use crate::weights::weigh;
 use crate::write::write;

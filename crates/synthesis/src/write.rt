@@ -10,7 +10,7 @@ ghost use Rattle.synthesis.specs.Weights.{Inserts, Lead};
 
 use crate::course::Course;
 use crate::drawn::named;
-use crate::fill::Weighed;
+use crate::weighed::Weighed;
 use letters::alphabet::MOST_LETTERS;
 use letters::letter::may_insert;
 use rules::table::{LAST_COLUMNS, NO_ROW};

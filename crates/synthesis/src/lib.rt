@@ -6,6 +6,7 @@ mod drawn;
 pub mod fault;
 mod make;
 mod rows;
+mod source;
 pub mod synthesize;
 pub mod theorems;
 mod weighed;

@@ -8,7 +8,8 @@ use Rattle.places.specs.Owing.{LoopWay, LoopOwed, LoopSpan}
 use Rattle.synthesis.specs.Fillable.{Fillable}
 use Rattle.synthesis.specs.Made.{StuckAt}
 use Rattle.synthesis.specs.Numbers.{Rowed, Rows}
-use Rattle.synthesis.specs.Weighed.{Weighing}
+use Rattle.synthesis.specs.declared.weighed.Weighed.{Weighed}
+use Rattle.synthesis.specs.Weighed.{AllWeighed, Weighing}
 use Rattle.synthesis.specs.Weights.{Stranded}
 use Rattle.synthesis.proofs.Marking.{marked_within}
 use Rattle.synthesis.proofs.Paths.{some_same, first_step}
@@ -109,20 +110,20 @@ module _ (r s : Loop) (letters : List ℕ) (fair : Fair r letters) (a : Agree r 
     back = x.back;
   }
 
-  weighed : (rows order owed span : List ℕ) (count : ℕ) → Weighing s rows order owed span (Some count) → Weighing r rows order owed span (Some count)
-  weighed rows order owed span count x = (
-    all_rows rows order count x.0,
-    record {
-      long = x.1.long ∙ a.size;
-      owes = λ p h m. owes p (get_or owed p 0) h (x.1.owes p (omega (arith, a.size)) m);
-      low = λ p h m. x.1.low p (omega (arith, a.size)) m;
-    },
-    record {
-      long = x.2.long ∙ a.size;
-      spans = λ p h m. spans p (get_or span p 0) h (x.2.spans p (omega (arith, a.size)) m);
-      low = λ p h m. x.2.low p (omega (arith, a.size)) m;
-    },
-  )
+  weighed : (w : Weighed) → AllWeighed s w → AllWeighed r w
+  weighed w x = record {
+    numbered = all_rows w.rows.now w.order.now w.count x.numbered;
+    owes = record {
+      long = x.owes.long ∙ a.size;
+      owes = λ p h m. owes p (get_or w.owed.now p 0) h (x.owes.owes p (omega (arith, a.size)) m);
+      low = λ p h m. x.owes.low p (omega (arith, a.size)) m;
+    };
+    spans = record {
+      long = x.spans.long ∙ a.size;
+      spans = λ p h m. spans p (get_or w.span.now p 0) h (x.spans.spans p (omega (arith, a.size)) m);
+      low = λ p h m. x.spans.low p (omega (arith, a.size)) m;
+    };
+  }
 
   stranded : Stranded s → Stranded r
   stranded x =
@@ -130,9 +131,9 @@ module _ (r s : Loop) (letters : List ℕ) (fair : Fair r letters) (a : Agree r 
       (x.0, reached x.0 x.1, live x.0 h x.2, λ u w. x.3 u (way_too x.0 u h w))
 
   -- what is worked out of one loop is so of the other
-  pub weighing : (rows order owed span : List ℕ) (o : Option ℕ) → Weighing s rows order owed span o → Weighing r rows order owed span o
-  weighing rows order owed span None x = stranded x
-  weighing rows order owed span (Some count) x = weighed rows order owed span count x
+  pub weighing : (o : Option Weighed) → Weighing s o → Weighing r o
+  weighing None x = stranded x
+  weighing (Some w) x = weighed w x
 
 pub fillable_too : (r s : Loop) (letters : List ℕ) → Fillable r letters → Agree r s → Fillable s letters
 fillable_too r s letters f a = record { fair = fair_too r s letters f.fair a; small = omega (arith, f.small, a.size); ascending = f.ascending }

@@ -1,7 +1,7 @@
 -- Drawing the places: the columns, a line of cells, and that the loop that is drawn agrees with the one that was meant.
 use Rattle.std.proofs.Common.{◌≡◌, ℕ, ◌+◌, ◌*◌, ◌<◌, true, ◌≢◌, List, length, get_or, set, replicate, Some, None, Option, sym, refl, ap, ◌∙◌, inl, inr, arith, length-set, get_or-set_other, get_or-set_same, below_more}
 use lib.ListN.{length-replicate, get_or-replicate}
-use Rattle.std.proofs.lemmas.List.{get_or_past}
+use Rattle.std.proofs.lemmas.List.{get_or_default, get_or_past}
 use Rattle.std.proofs.lemmas.Nat.{mul-add-lt}
 use Rattle.std.proofs.lemmas.Bool.{cases_eq, cases_lt}
 use Rattle.letters.specs.Alphabets.{ascending_from}
@@ -55,6 +55,10 @@ put_more line old memory start j v h e a = record {
       (get_or-set_same memory (start + j) v no_row h ∙ e);
   kept = λ k m. let d : k ≢ start + j = λ z. omega arith in get_or-set_other memory (start + j) k v no_row d ∙ a.kept k m;
 }
+
+-- what the cell j of a line names is what the letter j leads to
+pub line_next : (r : Loop) (letters line : List ℕ) (p j : ℕ) (o : Option ℕ) → Line r letters p line → j < length letters → j < length line → o ≡ row_named (get_or line j 0) → o ≡ r.next p (get_or letters j 0)
+line_next r letters line p j o a h k e = e ∙ ap row_named (get_or_default line j 0 no_row k) ∙ a j h
 
 -- one place more
 pub lines_more : (r : Loop) (letters cells after line : List ℕ) (p : ℕ) → Lines r letters cells p → Line r letters p line

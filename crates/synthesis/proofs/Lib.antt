@@ -1,12 +1,14 @@
 pub mod Agreeing
 pub mod Answered
 pub mod Belonging
+pub mod Best
 pub mod Bitwise
 pub mod Courses
 pub mod Drawing
 pub mod Fitted
 pub mod Grounding
 pub mod Laws
+pub mod Leading
 pub mod Letters
 pub mod Lines
 pub mod Made

@@ -1,12 +1,16 @@
 -- Marks: one more, a pass over all places, and that a closed and sound marking is exact.
-use Rattle.std.proofs.Common.{◌≡◌, ℕ, zero, suc, ◌+◌, ◌<◌, ◌≤◌, Bool, true, false, ◌⊎◌, List, [], ◌∷◌, length, get_or, set, Some, refl, ◌∙◌, inl, inr, arith, length-set, get_or-set_other, get_or-set_same, below_more}
+use Rattle.std.proofs.Common.{◌≡◌, ℕ, zero, suc, ◌+◌, ◌<◌, ◌≤◌, Bool, true, false, ◌⊎◌, List, [], ◌∷◌, length, get_or, is_some, sym, set, replicate, Some, refl, ap, ◌∙◌, inl, inr, arith, length-set, get_or-set_other, get_or-set_same, below_more}
+use Rattle.std.proofs.lemmas.Grind.{common_steps}
+use Rattle.std.specs.List.{list_any}
+use lib.ListN.{length-replicate, get_or-replicate}
 use Rattle.std.proofs.lemmas.Bool.{cases_eq, true≢false}
 use Rattle.rules.specs.Lists.{follow_by}
 use Rattle.places.specs.Loops.{Loop, Fair}
-use Rattle.synthesis.specs.Fillable.{Fillable}
-use Rattle.synthesis.specs.Marks.{Marked, zeros, Covers, Into, Marking, Exact}
+use Rattle.letters.specs.Alphabets.{among}
+use Rattle.synthesis.proofs.Letters.{among_at}
+use Rattle.synthesis.specs.Marks.{Marked, zeros, onward, Into, Marking, Exact}
 use Rattle.synthesis.specs.Table.{AllAre}
-use Rattle.synthesis.proofs.Paths.{some_same, first_step, live_before}
+use Rattle.synthesis.proofs.Paths.{some_same, first_step, live_before, onward_lost}
 
 pub zeros_set : (m : List ℕ) (p v : ℕ) → p < length m → get_or m p 0 ≡ 0 → 0 < v → zeros (set m p v) + 1 ≡ zeros m
 unfolding zeros
@@ -23,8 +27,19 @@ marked_within [] p h = absurd (omega arith)
 marked_within (x ∷ m) zero h = omega arith
 marked_within (x ∷ m) (suc p) h = let i = marked_within m p h in omega arith
 
-pub covers : (r : Loop) (letters m : List ℕ) → Fillable r letters → length m ≡ r.size → (p : ℕ) → p < r.size → Covers r m p
-covers r letters m f long p h = record { small = f.small; inside = h; covered = λ l q e. omega (arith, f.fair.stays p l q h e) }
+pub all_filled : (m : List ℕ) (n v : ℕ) → m ≡ replicate n v → AllAre v m
+all_filled m n v e k h = rw e (get_or-replicate n k v 0 (let l = ap length e ∙ length-replicate {A = ℕ} n v in omega arith))
+
+any_none : (test : ℕ → Bool) (ls : List ℕ) (j : ℕ) → list_any test ls ≡ false → j < length ls → test (get_or ls j 0) ≡ false
+any_none test [] j e h = absurd (omega arith)
+any_none test (l ∷ ls) zero e h = grind (arith, common_steps)
+any_none test (l ∷ ls) (suc j) e h = any_none test ls j (grind (arith, common_steps)) (omega arith)
+
+-- where no letter of the list leads to a marked place, none does
+pub into_none : (r : Loop) (ls m : List ℕ) (p l q : ℕ) → list_any (λ k. is_some (onward r m p k)) ls ≡ false → among l ls ≡ true → r.next p l ≡ Some q → Marked m q → ⊥
+into_none r ls m p l q e a =
+    let j = among_at l ls a in
+    onward_lost r m p l (ap (λ k. is_some (onward r m p k)) (sym j.2) ∙ any_none (λ k. is_some (onward r m p k)) ls j.0 e j.1) q
 
 -- marks after a further mark
 pub marked_set : (m : List ℕ) (p v q : ℕ) → Marked (set m p v) q → (q ≡ p) ⊎ Marked m q

@@ -1,6 +1,5 @@
 -- The table that was written tells what it should.
-use Rattle.std.proofs.Common.{◌≡◌, ℕ, ◌+◌, ◌-◌, ◌*◌, ◌/◌, ◌%◌, ◌<◌, ◌≤◌, eqb, List, [], ◌∷◌, length, get_or, Some, None, sym, refl, ap, ◌∙◌, subst, inl, inr, mul-le-mul_right, arith}
-use Rattle.std.proofs.lemmas.Nat.{mul-add-lt, div-mul-add, mod-mul-add}
+use Rattle.std.proofs.Common.{◌≡◌, ℕ, ◌+◌, ◌-◌, ◌*◌, ◌<◌, ◌≤◌, eqb, List, [], ◌∷◌, length, get_or, Some, None, sym, refl, ap, ◌∙◌, inl, inr, mul-le-mul_right, arith}
 use Rattle.std.proofs.lemmas.Bool.{cases_Bool, eqb-false, ne_eqb, cond-true, cond-false}
 use Rattle.letters.specs.Alphabets.{position}
 use Rattle.rules.specs.Lists.{and_then, follow_by}
@@ -11,7 +10,7 @@ use Rattle.synthesis.specs.Fillable.{Fillable}
 use Rattle.synthesis.specs.Marks.{Marked}
 use Rattle.synthesis.specs.Numbers.{Rows}
 use Rattle.synthesis.specs.Rows.{column, next_row}
-use Rattle.synthesis.specs.Table.{Entry, Written, Tells}
+use Rattle.synthesis.specs.Table.{Entry, RowsWritten, Tells}
 use Rattle.synthesis.proofs.Letters.{position_at, position_some}
 use Rattle.synthesis.proofs.Paths.{some_same, first_step, step_on, live_back}
 use Rattle.synthesis.proofs.Marking.{marked_within}
@@ -24,7 +23,7 @@ named_some v k e = elim (cases_Bool (eqb v no_row)) [
 
 module _ (r : Loop) (letters rows order : List ℕ) (count : ℕ) (fair : Fillable r letters) (rs : Rows r rows order count) (table : List ℕ)
     (room : r.size * (width letters) ≤ length table)
-    (written : (k : ℕ) → k < length table → Written r letters rows order count k (get_or table k 0)) where
+    (written : RowsWritten r letters rows order table count) where
   abbrev place : ℕ → ℕ
   place i = get_or order i 0
 
@@ -35,13 +34,7 @@ module _ (r : Loop) (letters rows order : List ℕ) (count : ℕ) (fair : Fillab
   place_inside i h = omega (arith, marked_within rows (place i) (has_row i h), rs.rowed.long)
 
   entry_at : (i j : ℕ) → i < count → j < width letters → Entry r letters rows (place i) j (column letters table i j)
-  entry_at i j h k =
-      let w = width letters in
-      let below : i * w + j < count * w = omega (arith, mul-add-lt i w j count h k) in
-      let fits : count * w ≤ r.size * w = mul-le-mul_right w rs.few in
-      let e : Entry r letters rows (get_or order ((i * w + j) / w) 0) ((i * w + j) % w) (column letters table i j) = (written (i * w + j) (omega arith)).inside below in
-      let e₁ = subst (λ (x : ℕ). Entry r letters rows (get_or order x 0) ((i * w + j) % w) (column letters table i j)) (div-mul-add i w j k) e in
-      subst (λ (x : ℕ). Entry r letters rows (place i) x (column letters table i j)) (mod-mul-add i w j k) e₁
+  entry_at i j h k = written i h j k
 
   step_place : (i l k : ℕ) → i < count → next_row letters table i l ≡ Some k → (k < count) × (r.next (place i) l ≡ Some (place k))
   step_place i l k h e =
@@ -108,8 +101,8 @@ module _ (r : Loop) (letters rows order : List ℕ) (count : ℕ) (fair : Fillab
   live_admitted : (t : List ℕ) → LeadsToLive r t → ((i : ℕ) × (follow_by (next_row letters table) 0 t ≡ Some i))
   live_admitted t x = let a = list_row t 0 x.0 rs.some_row (from_start t x.0 x.1) x.2 in (a.0, a.1)
 
-  pub tells : Tells r letters table count
-  tells = record {
+  pub tells : ((k : ℕ) → count * width letters ≤ k → k < length table → get_or table k 0 ≡ no_row) → Tells r letters table count
+  tells rest = record {
     some_row = rs.some_row;
     few = rs.few;
     room = let fits : count * width letters ≤ r.size * width letters = mul-le-mul_right (width letters) rs.few in omega arith;
@@ -122,5 +115,5 @@ module _ (r : Loop) (letters rows order : List ℕ) (count : ℕ) (fair : Fillab
     owed = λ i h. (entry_at i (length letters) h (omega arith)).owed refl;
     span = λ i h. (entry_at i (length letters + 1) h (omega arith)).span refl;
     lead = λ i h. (entry_at i (length letters + 2) h (omega arith)).lead refl;
-    rest = λ k h l. (written k l).past h;
+    rest = rest;
   }

@@ -1,51 +1,58 @@
 -- What a place owes, its span and its lead, from those of the places that its letters lead to.
-use Rattle.std.proofs.Common.{◌≡◌, ℕ, suc, ◌+◌, ◌-◌, ◌<◌, ◌≤◌, true, ◌≢◌, List, [], ◌∷◌, length, get_or, set, Some, sym, refl, ap, ◌∙◌, subst, inl, inr, arith, length-set, get_or-set_other, get_or-set_same, below_more}
-use Rattle.std.proofs.lemmas.Bool.{cases_eq, cases_lt}
+use Rattle.std.proofs.Common.{◌≡◌, ℕ, suc, ◌+◌, ◌-◌, ◌<◌, ◌≤◌, true, eqb, ◌≢◌, List, [], ◌∷◌, length, get_or, set, unwrap_or, option_map, Some, None, Option, sym, refl, ap, ◌∙◌, subst, inl, inr, arith, length-set, get_or-set_other, get_or-set_same, below_more}
+use Rattle.std.proofs.lemmas.Bool.{cases_Bool, cases_eq, cases_lt, cond-true, cond-false, eqb-false, ne_eqb}
 use Rattle.letters.specs.Letters.{end, insertable}
 use Rattle.rules.specs.Lists.{follow_by, Endless}
 use Rattle.rules.specs.Tabled.{no_row}
 use Rattle.places.specs.Loops.{Loop, Live}
 use Rattle.places.specs.Owing.{LoopWay, LoopOwed, LoopSpan}
 use Rattle.synthesis.specs.Fillable.{Fillable}
-use Rattle.synthesis.specs.Marks.{Marked, Covers}
+use Rattle.synthesis.specs.Marks.{Marked, onward}
 use Rattle.synthesis.specs.Numbers.{Rowed}
-use Rattle.synthesis.specs.Weights.{Owes, Spans, Inserts, GoesOn, Lead}
+use Rattle.synthesis.specs.Weights.{Owes, Spans, Inserts, GoesOn, OwedAt, Lead, beyond, owed_by, span_by}
+use Rattle.synthesis.proofs.Best.{Best}
 use Rattle.synthesis.proofs.Letters.{among_at, ascends, not_end}
-use Rattle.synthesis.proofs.Paths.{first_step, step_on, live_back}
+use Rattle.synthesis.proofs.Paths.{some_same, first_step, step_on, live_back, marked_some, onward_is}
 use Rattle.synthesis.proofs.Ways.{way_live, owed_live, way_none, way_end, way_more, way_less, owed_same, lead_exists}
-use Rattle.synthesis.proofs.Marking.{marked_within, covers}
+use Rattle.rules.proofs.Follows.{none_some}
+use Rattle.synthesis.proofs.Marking.{marked_within}
 
--- the letters before the index j give v for what p owes
-pub record Least (r : Loop) (letters rows : List ℕ) (p : ℕ) (owed : List ℕ) (v j : ℕ) : Type 0 where
-  pub found : v < no_row → (l : ℕ) × (q : ℕ) × Inserts r rows p l q × (v ≡ get_or owed q 0 + 1)
-  pub least : (i : ℕ) → i < j → (q : ℕ) → Inserts r rows p (get_or letters i 0) q → v ≤ get_or owed q 0 + 1
+-- the number of a place, and one
+map_some : (f : ℕ → ℕ) (o : Option ℕ) (v : ℕ) → option_map f o ≡ Some v → (q : ℕ) × (o ≡ Some q) × (v ≡ f q)
+map_some f None v e = absurd (none_some e)
+map_some f (Some q) v e = (q, refl, sym (some_same (f q) v e))
 
--- and for its span
-pub record Longest (r : Loop) (letters rows : List ℕ) (p : ℕ) (span : List ℕ) (v j : ℕ) : Type 0 where
-  pub found : 0 < v → (l : ℕ) × (q : ℕ) × GoesOn r rows p l q × (v ≡ get_or span q 0 + 1)
-  pub most : (i : ℕ) → i < j → (q : ℕ) → GoesOn r rows p (get_or letters i 0) q → get_or span q 0 + 1 ≤ v
+module _ (r : Loop) (rows numbers : List ℕ) (p l : ℕ) where
+  beyond_some : (v : ℕ) → beyond r rows numbers p l ≡ Some v → (q : ℕ) × (r.next p l ≡ Some q) × Marked rows q × (v ≡ get_or numbers q 0 + 1)
+  beyond_some v e =
+      let x = map_some (λ q. get_or numbers q 0 + 1) (onward r rows p l) v e in
+      let y = marked_some rows (r.next p l) x.0 x.1 in
+      (x.0, y.0, y.1, x.2)
 
-module _ (r : Loop) (letters rows : List ℕ) (p : ℕ) where
-  pub least_more : (owed : List ℕ) (v j w : ℕ) → Least r letters rows p owed v j → w ≤ v → (w < v → (q : ℕ) × Inserts r rows p (get_or letters j 0) q × (w ≡ get_or owed q 0 + 1))
-      → ((q : ℕ) → Inserts r rows p (get_or letters j 0) q → w ≤ get_or owed q 0 + 1) → Least r letters rows p owed w (j + 1)
-  least_more owed v j w a h from at_j = record {
-    found = λ g. elim (cases_lt w v) [ inl k ↦ let x = from k in (get_or letters j 0, x.0, x.1, x.2) | inr k ↦ let s : v ≡ w = omega arith in subst (λ (y : ℕ). (l : ℕ) × (q : ℕ) × Inserts r rows p l q × (y ≡ get_or owed q 0 + 1)) s (a.found (omega arith)) ];
-    least = below_more _ _ (λ i k q x. let z = a.least i k q x in omega arith) at_j;
-  }
+  beyond_is : (q : ℕ) → r.next p l ≡ Some q → Marked rows q → beyond r rows numbers p l ≡ Some (get_or numbers q 0 + 1)
+  beyond_is q e k = ap (option_map (λ q. get_or numbers q 0 + 1)) (onward_is r rows p l q e k)
 
-  pub longest_more : (span : List ℕ) (v j w : ℕ) → Longest r letters rows p span v j → v ≤ w → (v < w → (q : ℕ) × GoesOn r rows p (get_or letters j 0) q × (w ≡ get_or span q 0 + 1))
-      → ((q : ℕ) → GoesOn r rows p (get_or letters j 0) q → get_or span q 0 + 1 ≤ w) → Longest r letters rows p span w (j + 1)
-  longest_more span v j w a h from at_j = record {
-    found = λ g. elim (cases_lt v w) [ inl k ↦ let x = from k in (get_or letters j 0, x.0, x.1, x.2) | inr k ↦ let s : v ≡ w = omega arith in subst (λ (y : ℕ). (l : ℕ) × (q : ℕ) × GoesOn r rows p l q × (y ≡ get_or span q 0 + 1)) s (a.found (omega arith)) ];
-    most = below_more _ _ (λ i k q x. let z = a.most i k q x in omega arith) at_j;
-  }
+  owed_by_some : (v : ℕ) → owed_by r rows numbers p l ≡ Some v → (q : ℕ) × Inserts r rows p l q × (v ≡ get_or numbers q 0 + 1)
+  owed_by_some v e = elim (cases_Bool (insertable l)) [
+    | inl t ↦ let x = beyond_some v (sym (cond-true (insertable l) (beyond r rows numbers p l) None t) ∙ e) in (x.0, (t, x.1, x.2), x.3)
+    | inr f ↦ absurd (none_some (sym (cond-false (insertable l) (beyond r rows numbers p l) None f) ∙ e))
+  ]
+
+  owed_by_is : (q : ℕ) → Inserts r rows p l q → owed_by r rows numbers p l ≡ Some (get_or numbers q 0 + 1)
+  owed_by_is q i = cond-true (insertable l) (beyond r rows numbers p l) None i.0 ∙ beyond_is q i.1 i.2
+
+  span_by_some : (v : ℕ) → span_by r rows numbers p l ≡ Some v → (q : ℕ) × GoesOn r rows p l q × (v ≡ get_or numbers q 0 + 1)
+  span_by_some v e = elim (cases_Bool (eqb l end)) [
+    | inl t ↦ absurd (none_some (sym (cond-true (eqb l end) None (beyond r rows numbers p l) t) ∙ e))
+    | inr f ↦ let x = beyond_some v (sym (cond-false (eqb l end) None (beyond r rows numbers p l) f) ∙ e) in (x.0, (eqb-false l end f, x.1, x.2), x.3)
+  ]
+
+  span_by_is : (q : ℕ) → GoesOn r rows p l q → span_by r rows numbers p l ≡ Some (get_or numbers q 0 + 1)
+  span_by_is q g = cond-false (eqb l end) None (beyond r rows numbers p l) (ne_eqb l end g.0) ∙ beyond_is q g.1 g.2
 
 module _ (r : Loop) (letters rows : List ℕ) (fair : Fillable r letters) (rs : Rowed r rows) (p : ℕ) (m : Marked rows p) where
   pub inside : p < r.size
   inside = omega (arith, marked_within rows p m, rs.long)
-
-  pub here_covers : Covers r rows p
-  here_covers = covers r letters rows fair rs.long p inside
 
   -- where a letter stands that leads on
   letter_at : (l q : ℕ) → r.next p l ≡ Some q → (j : ℕ) × (j < length letters) × (get_or letters j 0 ≡ l)
@@ -58,64 +65,79 @@ module _ (r : Loop) (letters rows : List ℕ) (fair : Fillable r letters) (rs : 
   pub owed_none : (q : ℕ) → r.next p end ≡ Some q → Marked rows q → LoopOwed r p 0
   owed_none q e k = record { way = ([], refl, way_none r p q e (rs.live q k)); least = λ u w. omega arith }
 
-  module _ (owed : List ℕ) (wd : Owes r rows owed p) (v : ℕ) (a : Least r letters rows p owed v (length letters)) where
+  module _ (owed : List ℕ) (wd : Owes r rows owed p) where
     insert_lower : (l q : ℕ) → Inserts r rows p l q → q < p
     insert_lower l q i = lower l q (not_end l i.0) i.1
 
-    pub owed_low : v < no_row → v ≤ p
-    owed_low h = let f = a.found h in let k = insert_lower f.0 f.1 f.2 in omega (arith, wd.low f.1 k f.2.2, f.3)
+    -- what is owed where an insertable letter leads fits
+    pub owed_small : (l q : ℕ) → Inserts r rows p l q → get_or owed q 0 < no_row
+    owed_small l q i = omega (arith, wd.low q (insert_lower l q i) i.2, insert_lower l q i, inside, fair.small)
 
-    -- the first letter of a way leads to a lower place with a row, which bounds v and the way
-    first_letter : (u : List ℕ) → LoopWay r p u → ((q : ℕ) → r.next p end ≡ Some q → Marked rows q → ⊥) → (q : ℕ) × (q < p) × Marked rows q × (v ≤ get_or owed q 0 + 1) × (get_or owed q 0 + 1 ≤ length u)
-    first_letter [] w no_end = absurd (no_end w.last (way_end r p w) (rs.closed p end w.last m (way_end r p w) w.live))
-    first_letter (l ∷ u) w no_end =
-        let g = way_less r p l u w in
-        let q = g.0 in
-        let k = rs.closed p l q m g.1 (way_live r q u g.2) in
-        let j = letter_at l q g.1 in
-        let ins : Inserts r rows p l q = (w.inserts.0, g.1, k) in
-        let ins_j : Inserts r rows p (get_or letters j.0 0) q = subst (λ (x : ℕ). Inserts r rows p x q) (sym j.2) ins in
-        let below = insert_lower l q ins in
-        (q, below, k, a.least j.0 j.1 q ins_j, omega (arith, (wd.owes q below k).least u g.2))
+    module _ (no_end : (q : ℕ) → r.next p end ≡ Some q → Marked rows q → ⊥) where
+      -- the first letter of a way leads to a lower place with a row, and gives no more than the way has letters
+      first_letter : (u : List ℕ) → LoopWay r p u
+          → (j : ℕ) × (j < length letters) × (v : ℕ) × (owed_by r rows owed p (get_or letters j 0) ≡ Some v) × (v ≤ length u)
+      first_letter [] w = absurd (no_end w.last (way_end r p w) (rs.closed p end w.last m (way_end r p w) w.live))
+      first_letter (l ∷ u) w =
+          let g = way_less r p l u w in
+          let q = g.0 in
+          let k = rs.closed p l q m g.1 (way_live r q u g.2) in
+          let j = letter_at l q g.1 in
+          let ins : Inserts r rows p l q = (w.inserts.0, g.1, k) in
+          let e : owed_by r rows owed p (get_or letters j.0 0) ≡ Some (get_or owed q 0 + 1) = ap (owed_by r rows owed p) j.2 ∙ owed_by_is r rows owed p l q ins in
+          (j.0, j.1, get_or owed q 0 + 1, e, omega (arith, (wd.owes q (insert_lower l q ins) k).least u g.2))
 
-    pub owed_found : ((q : ℕ) → r.next p end ≡ Some q → Marked rows q → ⊥) → v < no_row → LoopOwed r p v
-    owed_found no_end h =
-        let f = a.found h in
-        let q = f.1 in
-        let o = wd.owes q (insert_lower f.0 q f.2) f.2.2 in
-        record { way = (f.0 ∷ o.way.0, omega (arith, o.way.1, f.3), way_more r p f.0 q o.way.0 f.2.0 f.2.1 o.way.2); least = λ u w. let s = first_letter u w no_end in omega (arith, s.3, s.4) }
+      pub owed_at : (o : Option ℕ) → Best (λ v w. v ≤ w) (owed_by r rows owed p) letters o → OwedAt r p o
+      owed_at None none = λ u w. let s = first_letter u w in absurd (none_some (sym (none s.0 s.1) ∙ s.3))
+      owed_at (Some v) best =
+          let f = best.0 in
+          let l = get_or letters f.0 0 in
+          let x = owed_by_some r rows owed p l v f.2 in
+          let q = x.0 in
+          let below = insert_lower l q x.1 in
+          let o = wd.owes q below x.1.2 in (
+            omega (arith, wd.low q below x.1.2, x.2),
+            record {
+              way = (l ∷ o.way.0, omega (arith, o.way.1, x.2), way_more r p l q o.way.0 x.1.0 x.1.1 o.way.2);
+              least = λ u w. let s = first_letter u w in omega (arith, s.4, best.1 s.0 s.2 s.1 s.3);
+            },
+          )
 
-    pub owed_stranded : ((q : ℕ) → r.next p end ≡ Some q → Marked rows q → ⊥) → v ≡ no_row → (u : List ℕ) → LoopWay r p u → ⊥
-    owed_stranded no_end e u w = let s = first_letter u w no_end in omega (arith, s.3, wd.low s.0 s.1 s.2, s.1, inside, fair.small)
+  module _ (span : List ℕ) (wd : Spans r rows span p) where
+    pub span_small : (l q : ℕ) → GoesOn r rows p l q → get_or span q 0 < no_row
+    span_small l q g = omega (arith, wd.low q (lower l q g.0 g.1) g.2, lower l q g.0 g.1, inside, fair.small)
 
-  module _ (span : List ℕ) (wd : Spans r rows span p) (v : ℕ) (a : Longest r letters rows p span v (length letters)) where
-    pub span_low : v ≤ p
-    span_low = elim (cases_lt 0 v) [
-      | inl h ↦ let f = a.found h in let k = lower f.0 f.1 f.2.0 f.2.1 in omega (arith, wd.low f.1 k f.2.2, f.3)
-      | inr h ↦ omega arith
-    ]
-
-    no_longer : (u : List ℕ) (q : ℕ) → Endless u → follow_by r.next p u ≡ Some q → Live r q → length u ≤ v
-    no_longer [] q f e x = omega arith
-    no_longer (l ∷ u) q f e x =
+    -- the first letter of a list without an end gives at least what the list has letters
+    first_on : (l : ℕ) (u : List ℕ) (q : ℕ) → Endless (l ∷ u) → follow_by r.next p (l ∷ u) ≡ Some q → Live r q
+        → (j : ℕ) × (j < length letters) × (v : ℕ) × (span_by r rows span p (get_or letters j 0) ≡ Some v) × (length (l ∷ u) ≤ v)
+    first_on l u q f e x =
         let s = first_step r.next p l u q e in
         let k = rs.closed p l s.0 m s.1 (live_back r u s.0 q s.2 x) in
         let j = letter_at l s.0 s.1 in
         let on : GoesOn r rows p l s.0 = (f.0, s.1, k) in
-        let on_j : GoesOn r rows p (get_or letters j.0 0) s.0 = subst (λ (y : ℕ). GoesOn r rows p y s.0) (sym j.2) on in
-        omega (arith, a.most j.0 j.1 s.0 on_j, (wd.spans s.0 (lower l s.0 f.0 s.1) k).most u q f.1 s.2 x)
+        let e : span_by r rows span p (get_or letters j.0 0) ≡ Some (get_or span s.0 0 + 1) = ap (span_by r rows span p) j.2 ∙ span_by_is r rows span p l s.0 on in
+        (j.0, j.1, get_or span s.0 0 + 1, e, omega (arith, (wd.spans s.0 (lower l s.0 f.0 s.1) k).most u q f.1 s.2 x))
 
-    longest_list : (u : List ℕ) × (length u ≡ v) × Endless u × ((q : ℕ) × (follow_by r.next p u ≡ Some q) × Live r q)
-    longest_list = elim (cases_lt 0 v) [
-      | inl h ↦
-          let f = a.found h in
-          let o = (wd.spans f.1 (lower f.0 f.1 f.2.0 f.2.1) f.2.2).longest in
-          (f.0 ∷ o.0, omega (arith, o.1, f.3), (f.2.0, o.2), (o.3.0, step_on r.next p f.0 f.1 o.0 f.2.1 ∙ o.3.1, o.3.2))
-      | inr h ↦ ([], omega arith, tt, (p, refl, rs.live p m))
-    ]
+    no_longer : (o : Option ℕ) → Best (λ v w. w ≤ v) (span_by r rows span p) letters o → (u : List ℕ) (q : ℕ) → Endless u → follow_by r.next p u ≡ Some q → Live r q → length u ≤ unwrap_or o 0
+    no_longer o best [] q f e x = omega arith
+    no_longer None none (l ∷ u) q f e x = let s = first_on l u q f e x in absurd (none_some (sym (none s.0 s.1) ∙ s.3))
+    no_longer (Some v) best (l ∷ u) q f e x = let s = first_on l u q f e x in omega (arith, s.4, best.1 s.0 s.2 s.1 s.3)
 
-    pub span_found : LoopSpan r p v
-    span_found = record { longest = longest_list; most = no_longer }
+    longest_list : (o : Option ℕ) → Best (λ v w. w ≤ v) (span_by r rows span p) letters o
+        → (unwrap_or o 0 ≤ p) × ((u : List ℕ) × (length u ≡ unwrap_or o 0) × Endless u × ((q : ℕ) × (follow_by r.next p u ≡ Some q) × Live r q))
+    longest_list None none = (omega arith, ([], omega arith, tt, (p, refl, rs.live p m)))
+    longest_list (Some v) best =
+        let f = best.0 in
+        let l = get_or letters f.0 0 in
+        let x = span_by_some r rows span p l v f.2 in
+        let below = lower l x.0 x.1.0 x.1.1 in
+        let o = (wd.spans x.0 below x.1.2).longest in (
+          omega (arith, wd.low x.0 below x.1.2, x.2),
+          (l ∷ o.0, omega (arith, o.1, x.2), (x.1.0, o.2), (o.3.0, step_on r.next p l x.0 o.0 x.1.1 ∙ o.3.1, o.3.2)),
+        )
+
+    pub span_at : (o : Option ℕ) → Best (λ v w. w ≤ v) (span_by r rows span p) letters o → (unwrap_or o 0 ≤ p) × LoopSpan r p (unwrap_or o 0)
+    span_at o best = let x = longest_list o best in (x.0, record { longest = x.1; most = no_longer o best })
 
   -- the lead, where all is known
   module _ (owed : List ℕ) (wd : Owes r rows owed r.size) where

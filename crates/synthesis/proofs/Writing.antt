@@ -1,33 +1,74 @@
--- Writing the table: what a line says of a letter, and when an index is in the row of the one before.
-use Rattle.std.proofs.Common.{◌≡◌, ℕ, ◌+◌, ◌*◌, ◌/◌, ◌%◌, ◌<◌, List, length, get_or, Option, sym, ap, ◌∙◌, subst, inl, inr, add-mul, one-mul, arith}
-use Rattle.std.proofs.lemmas.Nat.{div-mul-add, mod-mul-add, mod_below, div-add-mod'}
-use Rattle.std.proofs.lemmas.List.{get_or_default}
-use Rattle.std.proofs.lemmas.Bool.{cases_lt}
-use Rattle.rules.specs.Tabled.{no_row, row_named, width}
+-- Writing the rows of a table, each into its part of the memory.
+use Rattle.std.proofs.Common.{◌≡◌, ℕ, ◌+◌, ◌-◌, ◌*◌, ◌<◌, ◌≤◌, ◌≢◌, List, ◌++◌, length, get_or, set, take, drop, sym, ap, ◌∙◌, subst, arith, length-append, length-drop, length-set, get_or-set_other, get_or-set_same, below_more}
+use Rattle.std.proofs.lemmas.List.{get_or_append_left, get_or-append_right, get_or-take, length-take-le}
+use Rattle.std.proofs.lemmas.Nat.{mul-add-lt}
+use borrow.Rule.Slice.PartMut.{put_mid, post_of}
+use Rattle.rules.specs.Tabled.{no_row, width}
 use Rattle.places.specs.Loops.{Loop}
-use Rattle.synthesis.specs.Drawn.{Line}
-use Rattle.synthesis.specs.Table.{Lined}
+use Rattle.places.specs.Owing.{LoopOwed, LoopSpan}
+use Rattle.synthesis.specs.Table.{AllAre, Cell, Entry, RowsWritten}
+use Rattle.synthesis.specs.Weights.{Lead}
 
--- what the cell j of a line names is what the letter j leads to
-pub line_next : (r : Loop) (letters line : List ℕ) (p j : ℕ) (o : Option ℕ) → Line r letters p line → j < length letters → j < length line → o ≡ row_named (get_or line j 0) → o ≡ r.next p (get_or letters j 0)
-line_next r letters line p j o a h k e = e ∙ ap row_named (get_or_default line j 0 no_row k) ∙ a j h
+-- an element before the part of a list that was written, and one in it
+before_part : (xs ys : List ℕ) (a k i : ℕ) → i < a → a ≤ length xs → get_or (put_mid a k xs ys) i 0 ≡ get_or xs i 0
+before_part xs ys a k i h l = get_or_append_left (take a xs) (ys ++ post_of a k xs) 0 i (omega (arith, length-take-le a xs l)) ∙ get_or-take a xs i 0 h
 
-add_mul_one : (a w : ℕ) → (a + 1) * w ≡ a * w + w
-add_mul_one a w = add-mul a 1 w ∙ ap (λ (n : ℕ). a * w + n) (one-mul w)
+in_part : (xs ys : List ℕ) (a k j : ℕ) → j < length ys → a ≤ length xs → get_or (put_mid a k xs ys) (a + j) 0 ≡ get_or ys j 0
+in_part xs ys a k j h l =
+    let z : a + j - a ≡ j = omega arith in
+    get_or-append_right (take a xs) (ys ++ post_of a k xs) a (a + j) 0 (length-take-le a xs l) (omega arith)
+    ∙ ap (λ (n : ℕ). get_or (ys ++ post_of a k xs) n 0) z
+    ∙ get_or_append_left ys (post_of a k xs) 0 j h
 
-same_row : (k w : ℕ) → 0 < w → ((k + 1) % w ≡ 0 → ⊥) → (k + 1) / w ≡ k / w
-same_row k w h d =
-    let whole = div-add-mod' k w in
-    let below = mod_below k w h in
-    elim (cases_lt (k % w + 1) w) [
-      | inl m ↦
-          let e : k + 1 ≡ k / w * w + (k % w + 1) = omega (arith, whole) in
-          ap (λ (n : ℕ). n / w) e ∙ div-mul-add (k / w) w (k % w + 1) m
-      | inr m ↦
-          let e : k + 1 ≡ (k / w + 1) * w + 0 = let u : (k / w + 1) * w ≡ k / w * w + w = add_mul_one (k / w) w in omega (arith, whole, below) in
-          absurd (d (ap (λ (n : ℕ). n % w) e ∙ mod-mul-add (k / w + 1) w 0 h))
-    ]
+pub length_part : (xs ys : List ℕ) (a k : ℕ) → a + k ≤ length xs → length ys ≡ k → length (put_mid a k xs ys) ≡ length xs
+length_part xs ys a k h e = omega (arith, length-append (take a xs) (ys ++ post_of a k xs), length-append ys (post_of a k xs), length-take-le a xs (omega arith), length-drop k (drop a xs), length-drop a xs)
 
--- the line of the row at an index is that of the next, unless a row begins there
-pub lined_more : (r : Loop) (letters order line : List ℕ) (count k : ℕ) → Line r letters (get_or order (k / width letters) 0) line → Lined r letters order count line (k + 1)
-lined_more r letters order line count k a h d = subst (λ (n : ℕ). Line r letters (get_or order n 0) line) (sym (same_row k (width letters) (omega arith) d)) a
+module _ (r : Loop) (letters rows : List ℕ) where
+  -- the last columns after the cells of a row
+  pub last_columns : (p : ℕ) (row : List ℕ) (owed span lead : ℕ) → length row ≡ width letters
+      → ((k : ℕ) → k < length letters → Cell r rows p (get_or letters k 0) (get_or row k 0)) → LoopOwed r p owed → LoopSpan r p span → Lead r p lead
+      → (j : ℕ) → j < width letters → Entry r letters rows p j (get_or (set (set (set row (length letters) owed) (length letters + 1) span) (length letters + 2) lead) j 0)
+  last_columns p row owed span lead long cells o s l j h =
+      let n = length letters in
+      let a = set row n owed in
+      let b = set a (n + 1) span in
+      let a_long : length a ≡ n + 3 = length-set row n owed ∙ long in
+      let b_long : length b ≡ n + 3 = length-set a (n + 1) span ∙ a_long in
+      record {
+        cell = λ k.
+            let x : j ≢ n = omega arith in
+            let y : j ≢ n + 1 = omega arith in
+            let z : j ≢ n + 2 = omega arith in
+            subst (λ v. Cell r rows p (get_or letters j 0) v) (sym (get_or-set_other b (n + 2) j lead 0 z ∙ get_or-set_other a (n + 1) j span 0 y ∙ get_or-set_other row n j owed 0 x)) (cells j k);
+        owed = λ e.
+            let y : j ≢ n + 1 = omega arith in
+            let z : j ≢ n + 2 = omega arith in
+            subst (λ v. LoopOwed r p v) (sym (get_or-set_other b (n + 2) j lead 0 z ∙ get_or-set_other a (n + 1) j span 0 y ∙ ap (λ (i : ℕ). get_or a i 0) e ∙ get_or-set_same row n owed 0 (omega arith))) o;
+        span = λ e.
+            let z : j ≢ n + 2 = omega arith in
+            subst (λ v. LoopSpan r p v) (sym (get_or-set_other b (n + 2) j lead 0 z ∙ ap (λ (i : ℕ). get_or b i 0) e ∙ get_or-set_same a (n + 1) span 0 (omega arith))) s;
+        lead = λ e. subst (λ v. Lead r p v) (sym (ap (λ (i : ℕ). get_or (set b (n + 2) lead) i 0) e ∙ get_or-set_same b (n + 2) lead 0 (omega arith))) l;
+      }
+
+  module _ (order table : List ℕ) (n : ℕ) (written : RowsWritten r letters rows order table n) (within : n * width letters ≤ length table) where
+    -- the rows stay where something is written after them
+    pub rows_kept : (after : List ℕ) (k : ℕ) → RowsWritten r letters rows order (put_mid (n * width letters) k table after) n
+    rows_kept after k i h j g =
+        let w = width letters in
+        subst (λ v. Entry r letters rows (get_or order i 0) j v) (sym (before_part table after (n * w) k (i * w + j) (omega (arith, mul-add-lt i w j n h g)) within)) (written i h j g)
+
+    -- one row more
+    pub rows_more : (row : List ℕ) (k : ℕ) → length row ≡ width letters → ((j : ℕ) → j < width letters → Entry r letters rows (get_or order n 0) j (get_or row j 0))
+        → RowsWritten r letters rows order (put_mid (n * width letters) k table row) (n + 1)
+    rows_more row k long here =
+        let w = width letters in
+        below_more _ _ (rows_kept row k) (λ j g. subst (λ v. Entry r letters rows (get_or order n 0) j v) (sym (in_part table row (n * w) k j (omega arith) within)) (here j g))
+
+    -- and nothing else
+    pub rest_filled : (rest : List ℕ) (k : ℕ) → length rest + n * width letters ≡ length table → AllAre no_row rest
+        → (i : ℕ) → n * width letters ≤ i → i < length table → get_or (put_mid (n * width letters) k table rest) i 0 ≡ no_row
+    rest_filled rest k long all i h l =
+        let a = n * width letters in
+        let z : a + (i - a) ≡ i = omega arith in
+        let inside : i - a < length rest = omega arith in
+        ap (λ (m : ℕ). get_or (put_mid a k table rest) m 0) (sym z) ∙ in_part table rest a k (i - a) inside within ∙ all (i - a) inside

@@ -1,6 +1,6 @@
 -- Marks: a number for each place, 0 where it is not marked.
-use Rattle.std.specs.Prelude.{◌≡◌, ℕ, zero, suc, ◌<◌, ◌≤◌, List, [], ◌∷◌, length, Some, None, Option, slice_index}
-use Rattle.places.specs.Loops.{Loop, Live, most_size}
+use Rattle.std.specs.Prelude.{◌≡◌, ℕ, zero, suc, ◌<◌, cond, not, ◌==◌, List, [], ◌∷◌, length, Some, None, Option, slice_index}
+use Rattle.places.specs.Loops.{Loop, Live}
 
 abbrev pub Marked : List ℕ → ℕ → Type 0
 Marked m p = 0 < slice_index m p
@@ -11,22 +11,14 @@ zeros [] = 0
 zeros (zero ∷ m) = suc (zeros m)
 zeros (suc x ∷ m) = zeros m
 
--- p is a place, and m has a number for each place that a letter leads to from p
-pub record Covers (r : Loop) (m : List ℕ) (p : ℕ) : Type 0 where
-  pub small : r.size ≤ most_size
-  pub inside : p < r.size
-  pub covered : (l q : ℕ) → r.next p l ≡ Some q → q < length m
-
--- the letter l leads from p to the marked place q
-pub record LeadsOn (r : Loop) (m : List ℕ) (p l q : ℕ) : Type 0 where
-  pub goes : r.next p l ≡ Some q
-  pub inside : q < length m
-  pub marked : Marked m q
+-- the place, if it is marked
+abbrev pub if_marked : List ℕ → Option ℕ → Option ℕ
+if_marked m None = None
+if_marked m (Some q) = cond (not (slice_index m q == 0)) (Some q) None
 
 -- the marked place that the letter l leads to from p, or none
-abbrev pub Onward : Loop → List ℕ → ℕ → ℕ → Option ℕ → Type 0
-Onward r m p l None = (q : ℕ) → r.next p l ≡ Some q → Marked m q → ⊥
-Onward r m p l (Some q) = LeadsOn r m p l q
+abbrev pub onward : Loop → List ℕ → ℕ → ℕ → Option ℕ
+onward r m p l = if_marked m (r.next p l)
 
 -- some letter leads from p to a marked place
 abbrev pub Into : Loop → List ℕ → ℕ → Type 0

@@ -1,13 +1,12 @@
 -- What a filled table tells of the places that it was filled from.
-use Rattle.std.specs.Prelude.{◌≡◌, ℕ, ◌+◌, ◌*◌, ◌/◌, ◌%◌, ◌<◌, ◌≤◌, ◌↔◌, List, length, Some, None, Option, ◌≢◌, slice_index}
+use Rattle.std.specs.Prelude.{◌≡◌, ℕ, ◌+◌, ◌*◌, ◌<◌, ◌≤◌, ◌↔◌, List, length, Some, ◌≢◌, slice_index}
 use Rattle.rules.specs.Lists.{follow_by}
 use Rattle.rules.specs.Tabled.{no_row, width}
 use Rattle.places.specs.Loops.{Loop, LeadsToLive}
 use Rattle.places.specs.Owing.{LoopOwed, LoopSpan}
-use Rattle.synthesis.specs.Drawn.{Line}
 use Rattle.synthesis.specs.Marks.{Marked}
-use Rattle.synthesis.specs.Weights.{Lead, Stranded}
-use Rattle.synthesis.specs.Rows.{row_owed, row_span, row_lead, next_row}
+use Rattle.synthesis.specs.Weights.{Lead}
+use Rattle.synthesis.specs.Rows.{column, row_owed, row_span, row_lead, next_row}
 
 -- v is the row that the letter l leads to from p, or no row
 pub record Cell (r : Loop) (rows : List ℕ) (p l v : ℕ) : Type 0 where
@@ -21,15 +20,10 @@ pub record Entry (r : Loop) (letters rows : List ℕ) (p j v : ℕ) : Type 0 whe
   pub span : j ≡ length letters + 1 → LoopSpan r p v
   pub lead : j ≡ length letters + 2 → Lead r p v
 
--- v stands in the table at k
-pub record Written (r : Loop) (letters rows order : List ℕ) (count k v : ℕ) : Type 0 where
-  pub inside : k < count * width letters → Entry r letters rows (slice_index order (k / width letters)) (k % width letters) v
-  pub past : count * width letters ≤ k → v ≡ no_row
-
--- the line is that of the row at k, unless the row begins there
-abbrev pub Lined : Loop → List ℕ → List ℕ → ℕ → List ℕ → ℕ → Type 0
-Lined r letters order count line k =
-    k < count * width letters → (k % width letters ≢ 0) → Line r letters (slice_index order (k / width letters)) line
+-- the rows before n stand in the table
+abbrev pub RowsWritten : Loop → List ℕ → List ℕ → List ℕ → List ℕ → ℕ → Type 0
+RowsWritten r letters rows order table n =
+    (i : ℕ) → i < n → (j : ℕ) → j < width letters → Entry r letters rows (slice_index order i) j (column letters table i j)
 
 -- what the table says of the loop r: its rows are the live places that are reached
 pub record Tells (r : Loop) (letters table : List ℕ) (count : ℕ) : Type 0 where
@@ -55,8 +49,3 @@ pub record Tells (r : Loop) (letters table : List ℕ) (count : ℕ) : Type 0 wh
 -- each number of the memory is v
 abbrev pub AllAre : ℕ → List ℕ → Type 0
 AllAre v m = (k : ℕ) → k < length m → slice_index m k ≡ v
-
--- what filling answers, and what then stands in the table memory: the number of rows, or none where a place is stranded
-abbrev pub Filled : Loop → List ℕ → List ℕ → Option ℕ → Type 0
-Filled r letters table None = Stranded r × AllAre no_row table
-Filled r letters table (Some count) = Tells r letters table count

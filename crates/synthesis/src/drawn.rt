@@ -1,4 +1,4 @@
-ghost use Rattle.std.specs.Prelude.{◌≡◌, ℕ, ◌+◌, ◌*◌, ◌<◌, ◌≤◌, true, length, slice_index_or};
+ghost use Rattle.std.specs.Prelude.{◌≡◌, ℕ, ◌+◌, ◌*◌, ◌<◌, ◌≤◌, true, length, slice_index_or, unwrap_or};
 ghost use Rattle.letters.specs.Alphabets.{ascending_from, most_letters};
 ghost use Rattle.property.specs.Sized.{most_size};
 ghost use Rattle.rules.specs.Tabled.{no_row, row_named, width};
@@ -29,6 +29,13 @@ pub(crate) fn named(cell: u16) -> Option<u16>
     ensures { result ≡ row_named cell }
 {
     if cell == NO_ROW { None } else { Some(cell) }
+}
+
+/// What a cell holds of a number that may be absent.
+pub(crate) fn cell_of(number: Option<u16>) -> u16
+    ensures { result ≡ unwrap_or number no_row }
+{
+    number.unwrap_or(NO_ROW)
 }
 
 impl Drawn<'_> {

@@ -4,10 +4,11 @@
 mod course;
 mod drawn;
 pub mod fault;
-mod fill;
 mod make;
 mod rows;
+mod source;
 pub mod synthesize;
 pub mod theorems;
+mod weighed;
 mod weights;
 mod write;

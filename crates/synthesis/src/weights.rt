@@ -1,184 +1,106 @@
-ghost use Rattle.std.specs.Prelude.{◌≡◌, ℕ, ◌+◌, ◌<◌, ◌≤◌, true, false, List, length, ◌≢◌, slice_index};
+ghost use Rattle.std.specs.Prelude.{◌≡◌, ℕ, ◌<◌, ◌≤◌, true, false, length, slice_index, Some};
 ghost use Rattle.rules.specs.Tabled.{no_row};
-ghost use Rattle.places.specs.Owing.{LoopWay, LoopOwed, LoopSpan};
-ghost use Rattle.synthesis.specs.Fillable.{Fillable};
-ghost use Rattle.synthesis.specs.Marks.{Marked, Covers};
+ghost use Rattle.places.specs.Owing.{LoopSpan};
+ghost use Rattle.synthesis.specs.Marks.{Marked};
 ghost use Rattle.synthesis.specs.Numbers.{Rowed};
-ghost use Rattle.synthesis.specs.Weights.{Owes, Spans, Inserts, GoesOn, Lead, Stranded};
+ghost use Rattle.synthesis.specs.Weights.{Owes, Spans, Inserts, GoesOn, OwedAt, Stranded, beyond, owed_by, span_by};
 
-use crate::rows::onward;
+use crate::source::Source;
 use letters::letter::{END, Letter, may_insert};
 use places::places::Places;
-use rules::table::NO_ROW;
 
-/// The smaller of `least` and what the place owes by way of the letter.
-fn owed_by<P: Places>(
-    places: &P,
-    letter: Letter,
-    rows: &[u16],
-    owed: &[u16],
-    place: u16,
-    least: u16,
-) -> u16
-    requires covers { Covers (P.Places.meaning places.now) rows.now place }
-    requires owed_len { length owed.now ≡ length rows.now }
-    requires small { (q : ℕ) → Inserts (P.Places.meaning places.now) rows.now place letter q → slice_index owed.now q < no_row }
-    ensures lower { result ≤ least }
-    ensures from { result < least → (q : ℕ) × Inserts (P.Places.meaning places.now) rows.now place letter q × (result ≡ slice_index owed.now q + 1) }
-    ensures at { (q : ℕ) → Inserts (P.Places.meaning places.now) rows.now place letter q → result ≤ slice_index owed.now q + 1 }
-{
-    if !may_insert(letter) {
-        return least;
+impl<P: Places> Source<'_, P> {
+    /// One more than the number of the place with a row that the letter leads to.
+    fn beyond(&self, letter: Letter, rows: &[u16], numbers: &[u16], place: u16) -> Option<u16>
+        requires rows_len { length rows.now ≡ (P.Places.meaning self.now.places.now).size }
+        requires inside { place < (P.Places.meaning self.now.places.now).size }
+        requires numbers_len { length numbers.now ≡ length rows.now }
+        requires small { (q : ℕ) → (P.Places.meaning self.now.places.now).next place letter ≡ Some q → Marked rows.now q → slice_index numbers.now q < no_row }
+        ensures { result ≡ beyond (P.Places.meaning self.now.places.now) rows.now numbers.now place letter }
+    {
+        let next = self.onward(letter, rows, place)?;
+        Some(numbers[next as usize] + 1)
     }
-    match onward(places, letter, rows, place) {
-        None => least,
-        Some(next) => {
-            let due = owed[next as usize] + 1;
-            if due < least { due } else { least }
+
+    /// What the place owes by way of the letter, if it is insertable and leads to a place with a row.
+    fn owed_by(&self, letter: Letter, rows: &[u16], owed: &[u16], place: u16) -> Option<u16>
+        requires rows_len { length rows.now ≡ (P.Places.meaning self.now.places.now).size }
+        requires inside { place < (P.Places.meaning self.now.places.now).size }
+        requires owed_len { length owed.now ≡ length rows.now }
+        requires small { (q : ℕ) → Inserts (P.Places.meaning self.now.places.now) rows.now place letter q → slice_index owed.now q < no_row }
+        ensures { result ≡ owed_by (P.Places.meaning self.now.places.now) rows.now owed.now place letter }
+    {
+        if may_insert(letter) {
+            self.beyond(letter, rows, owed, place)
+        } else {
+            None
         }
     }
-}
 
-/// What the place owes, or `NO_ROW` where it has no insertable way to an end.
-fn owed_at<P: Places>(places: &P, letters: &[Letter], rows: &[u16], owed: &[u16], place: u16) -> u16
-    requires fillable { Fillable (P.Places.meaning places.now) letters.now }
-    requires rowed { Rowed (P.Places.meaning places.now) rows.now }
-    requires owes { Owes (P.Places.meaning places.now) rows.now owed.now place }
-    requires marked { Marked rows.now place }
-    ensures low { result < no_row → result ≤ place }
-    ensures found { result < no_row → LoopOwed (P.Places.meaning places.now) place result }
-    ensures stranded { result ≡ no_row → (u : List ℕ) → LoopWay (P.Places.meaning places.now) place u → ⊥ }
-{
-    if onward(places, END, rows, place).is_some() {
-        return 0;
+    /// What the place owes, or none where it has no insertable way to an end.
+    fn owed_at(&self, rows: &[u16], owed: &[u16], place: u16) -> Option<u16>
+        requires rowed { Rowed (P.Places.meaning self.now.places.now) rows.now }
+        requires owes { Owes (P.Places.meaning self.now.places.now) rows.now owed.now place }
+        requires marked { Marked rows.now place }
+        ensures { OwedAt (P.Places.meaning self.now.places.now) place result }
+    {
+        if self.onward(END, rows, place).is_some() {
+            return Some(0);
+        }
+        self.letters
+            .iter()
+            .filter_map(|letter| self.owed_by(*letter, rows, owed, place))
+            .min()
     }
-    let mut least = NO_ROW;
-    for letter in letters {
-        least = owed_by(places, *letter, rows, owed, place, least);
-    }
-    least
-}
 
-/// The larger of `longest` and the span by way of the letter.
-fn span_by<P: Places>(
-    places: &P,
-    letter: Letter,
-    rows: &[u16],
-    span: &[u16],
-    place: u16,
-    longest: u16,
-) -> u16
-    requires covers { Covers (P.Places.meaning places.now) rows.now place }
-    requires span_len { length span.now ≡ length rows.now }
-    requires small { (q : ℕ) → GoesOn (P.Places.meaning places.now) rows.now place letter q → slice_index span.now q < no_row }
-    ensures higher { longest ≤ result }
-    ensures from { longest < result → (q : ℕ) × GoesOn (P.Places.meaning places.now) rows.now place letter q × (result ≡ slice_index span.now q + 1) }
-    ensures at { (q : ℕ) → GoesOn (P.Places.meaning places.now) rows.now place letter q → slice_index span.now q + 1 ≤ result }
-{
-    if letter == END {
-        return longest;
-    }
-    match onward(places, letter, rows, place) {
-        None => longest,
-        Some(next) => {
-            let long = span[next as usize] + 1;
-            if longest < long { long } else { longest }
+    /// The span of the place by way of the letter, if it is not the end and leads to a place with a row.
+    fn span_by(&self, letter: Letter, rows: &[u16], span: &[u16], place: u16) -> Option<u16>
+        requires rows_len { length rows.now ≡ (P.Places.meaning self.now.places.now).size }
+        requires inside { place < (P.Places.meaning self.now.places.now).size }
+        requires span_len { length span.now ≡ length rows.now }
+        requires small { (q : ℕ) → GoesOn (P.Places.meaning self.now.places.now) rows.now place letter q → slice_index span.now q < no_row }
+        ensures { result ≡ span_by (P.Places.meaning self.now.places.now) rows.now span.now place letter }
+    {
+        if letter == END {
+            None
+        } else {
+            self.beyond(letter, rows, span, place)
         }
     }
-}
 
-/// The span of the place.
-fn span_at<P: Places>(places: &P, letters: &[Letter], rows: &[u16], span: &[u16], place: u16) -> u16
-    requires fillable { Fillable (P.Places.meaning places.now) letters.now }
-    requires rowed { Rowed (P.Places.meaning places.now) rows.now }
-    requires spans { Spans (P.Places.meaning places.now) rows.now span.now place }
-    requires marked { Marked rows.now place }
-    ensures low { result ≤ place }
-    ensures found { LoopSpan (P.Places.meaning places.now) place result }
-{
-    let mut longest = 0;
-    for letter in letters {
-        longest = span_by(places, *letter, rows, span, place, longest);
+    /// The span of the place.
+    fn span_at(&self, rows: &[u16], span: &[u16], place: u16) -> u16
+        requires rowed { Rowed (P.Places.meaning self.now.places.now) rows.now }
+        requires spans { Spans (P.Places.meaning self.now.places.now) rows.now span.now place }
+        requires marked { Marked rows.now place }
+        ensures low { result ≤ place }
+        ensures found { LoopSpan (P.Places.meaning self.now.places.now) place result }
+    {
+        self.letters
+            .iter()
+            .filter_map(|letter| self.span_by(*letter, rows, span, place))
+            .max()
+            .unwrap_or(0)
     }
-    longest
-}
 
-/// Weighs each place with a row, in ascending order: what it owes and its span; answers whether each has an insertable way to an end.
-pub(crate) fn weigh<P: Places>(
-    places: &P,
-    letters: &[Letter],
-    rows: &[u16],
-    owed: &mut [u16],
-    span: &mut [u16],
-) -> bool
-    requires fillable { Fillable (P.Places.meaning places.now) letters.now }
-    requires rowed { Rowed (P.Places.meaning places.now) rows.now }
-    requires owed_len { length owed.old ≡ (P.Places.meaning places.now).size }
-    requires span_len { length span.old ≡ (P.Places.meaning places.now).size }
-    ensures owes { result ≡ true → Owes (P.Places.meaning places.now) rows.now owed.new (P.Places.meaning places.now).size }
-    ensures spans { result ≡ true → Spans (P.Places.meaning places.now) rows.now span.new (P.Places.meaning places.now).size }
-    ensures stranded { result ≡ false → Stranded (P.Places.meaning places.now) }
-{
-    for place in 0..places.size() {
-        if rows[place as usize] != 0 {
-            let least = owed_at(places, letters, rows, owed, place);
-            if least == NO_ROW {
-                return false;
+    /// Weighs each place with a row, in ascending order: what it owes and its span; answers whether each has an insertable way to an end.
+    pub(crate) fn weigh(&self, rows: &[u16], owed: &mut [u16], span: &mut [u16]) -> bool
+        requires rowed { Rowed (P.Places.meaning self.now.places.now) rows.now }
+        requires owed_len { length owed.old ≡ (P.Places.meaning self.now.places.now).size }
+        requires span_len { length span.old ≡ (P.Places.meaning self.now.places.now).size }
+        ensures owes { result ≡ true → Owes (P.Places.meaning self.now.places.now) rows.now owed.new (P.Places.meaning self.now.places.now).size }
+        ensures spans { result ≡ true → Spans (P.Places.meaning self.now.places.now) rows.now span.new (P.Places.meaning self.now.places.now).size }
+        ensures stranded { result ≡ false → Stranded (P.Places.meaning self.now.places.now) }
+    {
+        for place in 0..self.places.size() {
+            if rows[place as usize] != 0 {
+                let Some(least) = self.owed_at(rows, owed, place) else {
+                    return false;
+                };
+                owed[place as usize] = least;
+                span[place as usize] = self.span_at(rows, span, place);
             }
-            let longest = span_at(places, letters, rows, span, place);
-            owed[place as usize] = least;
-            span[place as usize] = longest;
         }
+        true
     }
-    true
-}
-
-/// Whether the letter leads from the place to one that owes one less than `due`.
-fn lowers<P: Places>(
-    places: &P,
-    letter: Letter,
-    rows: &[u16],
-    owed: &[u16],
-    place: u16,
-    due: u16,
-) -> bool
-    requires covers { Covers (P.Places.meaning places.now) rows.now place }
-    requires owed_len { length owed.now ≡ length rows.now }
-    requires small { (q : ℕ) → Inserts (P.Places.meaning places.now) rows.now place letter q → slice_index owed.now q < no_row }
-    ensures yes { result ≡ true → (q : ℕ) × Inserts (P.Places.meaning places.now) rows.now place letter q × (slice_index owed.now q + 1 ≡ due) }
-    ensures nay { result ≡ false → (q : ℕ) → Inserts (P.Places.meaning places.now) rows.now place letter q → slice_index owed.now q + 1 ≢ due }
-{
-    if !may_insert(letter) {
-        return false;
-    }
-    match onward(places, letter, rows, place) {
-        None => false,
-        Some(next) => owed[next as usize] + 1 == due,
-    }
-}
-
-/// The lead of the place: the lowest letter that lowers what it owes, or `NO_ROW` where it owes nothing.
-pub(crate) fn lead_at<P: Places>(
-    places: &P,
-    letters: &[Letter],
-    rows: &[u16],
-    owed: &[u16],
-    place: u16,
-) -> u16
-    requires fillable { Fillable (P.Places.meaning places.now) letters.now }
-    requires rowed { Rowed (P.Places.meaning places.now) rows.now }
-    requires owes { Owes (P.Places.meaning places.now) rows.now owed.now (P.Places.meaning places.now).size }
-    requires marked { Marked rows.now place }
-    ensures { Lead (P.Places.meaning places.now) place result }
-{
-    let due = owed[place as usize];
-    if due == 0 {
-        return NO_ROW;
-    }
-    for letter in letters {
-        if lowers(places, *letter, rows, owed, place, due) {
-            return *letter as u16;
-        }
-    }
-    NO_ROW
 }

@@ -1,184 +1,124 @@
-ghost use Rattle.std.specs.Prelude.{◌≡◌, ℕ, ◌+◌, ◌*◌, ◌<◌, ◌≤◌, true, false, length, Some, ◌≢◌, slice_index};
+ghost use Rattle.std.specs.Prelude.{◌≡◌, ℕ, ◌+◌, ◌*◌, ◌<◌, ◌≤◌, true, false, length, Some, ◌≢◌, slice_index, unwrap_or};
+ghost use Rattle.letters.specs.Alphabets.{most_letters};
 ghost use Rattle.rules.specs.Tabled.{no_row, width};
 ghost use Rattle.synthesis.specs.Courses.{Ready, letters_of, loop_of};
 ghost use Rattle.synthesis.specs.Drawn.{Line};
 ghost use Rattle.synthesis.specs.Fillable.{Fillable};
-ghost use Rattle.synthesis.specs.Marks.{Covers, Marked, Onward};
-ghost use Rattle.synthesis.specs.Table.{Cell, Entry, Lined, Tells, Written};
-ghost use Rattle.synthesis.specs.Weighed.{AllWeighed};
-ghost use Rattle.synthesis.specs.Weights.{Inserts, Lead};
+ghost use Rattle.synthesis.specs.Marks.{Marked, onward};
+ghost use Rattle.synthesis.specs.Table.{Cell, Entry, Tells};
+ghost use Rattle.synthesis.specs.Weighed.{AllWeighed, lowers};
+ghost use Rattle.synthesis.specs.Weights.{Lead};
 
 use crate::course::Course;
-use crate::drawn::named;
-use crate::fill::Weighed;
+use crate::drawn::{cell_of, named};
+use crate::rows::if_marked;
+use crate::weighed::Weighed;
 use letters::alphabet::MOST_LETTERS;
-use letters::letter::may_insert;
+use letters::letter::{Letter, may_insert};
 use rules::table::{LAST_COLUMNS, NO_ROW};
 
-/// The place with a row that the letter at an index leads to from the place of the line.
-fn onward(
-    course: &Course,
-    line: &[u16; MOST_LETTERS],
-    rows: &[u16],
+/// The row of a place, as it is written.
+#[derive(Drop)]
+struct Row<'a> {
+    course: &'a Course<'a>,
+    weighed: &'a Weighed<'a>,
     place: u16,
-    j: usize,
-) -> Option<u16>
-    requires ready { Ready course.now }
-    requires line { Line (loop_of course.now) (letters_of course.now) place line.now }
-    requires covers { Covers (loop_of course.now) rows.now place }
-    requires within { j < length (letters_of course.now) }
-    ensures { Onward (loop_of course.now) rows.now place (slice_index (letters_of course.now) j) result }
-{
-    match named(line[j]) {
-        None => None,
-        Some(next) => {
-            if rows[next as usize] == 0 {
-                None
-            } else {
-                Some(next)
-            }
+    /// The place that each letter leads to, or `NO_ROW`.
+    line: [u16; MOST_LETTERS],
+    ghost few: { length (letters_of course.now) ≤ most_letters },
+    ghost fillable: { Fillable (loop_of course.now) (letters_of course.now) },
+    ghost marked: { Marked weighed.now.rows.now place },
+    ghost leads: { Line (loop_of course.now) (letters_of course.now) place line },
+}
+
+impl Row<'_> {
+    /// The place with a row that the letter at an index leads to.
+    fn onward(&self, j: usize) -> Option<u16>
+        requires weighs { AllWeighed (loop_of self.now.course.now) self.now.weighed.now }
+        requires within { j < length (letters_of self.now.course.now) }
+        ensures { result ≡ onward (loop_of self.now.course.now) self.now.weighed.now.rows.now self.now.place (slice_index (letters_of self.now.course.now) j) }
+    {
+        if_marked(named(self.line[j]), self.weighed.rows)
+    }
+
+    /// The row that the letter at an index leads to.
+    fn next(&self, j: usize) -> Option<u16>
+        requires weighs { AllWeighed (loop_of self.now.course.now) self.now.weighed.now }
+        requires within { j < length (letters_of self.now.course.now) }
+        ensures { Cell (loop_of self.now.course.now) self.now.weighed.now.rows.now self.now.place (slice_index (letters_of self.now.course.now) j) (unwrap_or result no_row) }
+    {
+        let next = self.onward(j)?;
+        Some(self.weighed.rows[next as usize] - 1)
+    }
+
+    /// Whether the letter at an index is insertable and leads to a place that owes one less.
+    fn lowers(&self, j: usize) -> bool
+        requires weighs { AllWeighed (loop_of self.now.course.now) self.now.weighed.now }
+        requires within { j < length (letters_of self.now.course.now) }
+        ensures { result ≡ lowers (loop_of self.now.course.now) self.now.weighed.now self.now.place (slice_index (letters_of self.now.course.now) j) }
+    {
+        let owed = self.weighed.owed;
+        may_insert(self.course.checked.letters[j])
+            && matches!(self.onward(j), Some(next) if owed[next as usize] + 1 == owed[self.place as usize])
+    }
+
+    /// The lead: the lowest letter that lowers what the place owes, or none where it owes nothing.
+    fn lead(&self) -> Option<Letter>
+        requires { AllWeighed (loop_of self.now.course.now) self.now.weighed.now }
+        ensures { Lead (loop_of self.now.course.now) self.now.place (unwrap_or result no_row) }
+    {
+        let j = (0..self.course.checked.letters.len()).find(|j| self.lowers(*j))?;
+        Some(self.course.checked.letters[j])
+    }
+
+    /// Writes the row: a cell for each letter, then owed, span and lead.
+    fn write(&self, row: &mut [u16])
+        requires weighs { AllWeighed (loop_of self.now.course.now) self.now.weighed.now }
+        requires wide { length row.old ≡ width (letters_of self.now.course.now) }
+        ensures { (j : ℕ) → j < width (letters_of self.now.course.now) → Entry (loop_of self.now.course.now) (letters_of self.now.course.now) self.now.weighed.now.rows.now self.now.place j (slice_index row.new j) }
+    {
+        let letters = self.course.checked.letters.len();
+        for j in 0..letters {
+            row[j] = cell_of(self.next(j));
         }
+        row[letters] = self.weighed.owed[self.place as usize];
+        row[letters + 1] = self.weighed.span[self.place as usize];
+        row[letters + 2] = cell_of(self.lead().map(u16::from));
     }
 }
 
-/// The row of the place that the letter at an index leads to, or `NO_ROW`.
-fn cell(course: &Course, line: &[u16; MOST_LETTERS], rows: &[u16], place: u16, j: usize) -> u16
-    requires ready { Ready course.now }
-    requires line { Line (loop_of course.now) (letters_of course.now) place line.now }
-    requires covers { Covers (loop_of course.now) rows.now place }
-    requires within { j < length (letters_of course.now) }
-    ensures { Cell (loop_of course.now) rows.now place (slice_index (letters_of course.now) j) result }
-{
-    match onward(course, line, rows, place, j) {
-        None => NO_ROW,
-        Some(next) => rows[next as usize] - 1,
-    }
-}
-
-/// Whether the letter at an index leads to a place that owes one less than `due`.
-fn lowers(
-    course: &Course,
-    line: &[u16; MOST_LETTERS],
-    weighed: &Weighed,
-    place: u16,
-    j: usize,
-    due: u16,
-) -> bool
-    requires ready { Ready course.now }
-    requires line { Line (loop_of course.now) (letters_of course.now) place line.now }
-    requires covers { Covers (loop_of course.now) weighed.now.rows.now place }
-    requires within { j < length (letters_of course.now) }
-    requires owed_len { length weighed.now.owed.now ≡ length weighed.now.rows.now }
-    requires small { (q : ℕ) → Inserts (loop_of course.now) weighed.now.rows.now place (slice_index (letters_of course.now) j) q → slice_index weighed.now.owed.now q < no_row }
-    ensures yes { result ≡ true → (q : ℕ) × Inserts (loop_of course.now) weighed.now.rows.now place (slice_index (letters_of course.now) j) q × (slice_index weighed.now.owed.now q + 1 ≡ due) }
-    ensures nay { result ≡ false → (q : ℕ) → Inserts (loop_of course.now) weighed.now.rows.now place (slice_index (letters_of course.now) j) q → slice_index weighed.now.owed.now q + 1 ≢ due }
-{
-    if !may_insert(course.checked.letters[j]) {
-        return false;
-    }
-    match onward(course, line, weighed.rows, place, j) {
-        None => false,
-        Some(next) => weighed.owed[next as usize] + 1 == due,
-    }
-}
-
-/// The lead of the place: the lowest letter that lowers what it owes, or `NO_ROW` where it owes nothing.
-fn lead_at(course: &Course, weighed: &Weighed, line: &[u16; MOST_LETTERS], place: u16) -> u16
-    requires ready { Ready course.now }
-    requires fillable { Fillable (loop_of course.now) (letters_of course.now) }
-    requires weighs { AllWeighed (loop_of course.now) weighed.now }
-    requires row { Marked weighed.now.rows.now place }
-    requires line { Line (loop_of course.now) (letters_of course.now) place line.now }
-    ensures { Lead (loop_of course.now) place result }
-{
-    let due = weighed.owed[place as usize];
-    if due == 0 {
-        return NO_ROW;
-    }
-    for j in 0..course.checked.letters.len() {
-        if lowers(course, line, weighed, place, j, due) {
-            return course.checked.letters[j] as u16;
-        }
-    }
-    NO_ROW
-}
-
-/// What stands in the row of the place at the column.
-fn entry(
-    course: &Course,
-    weighed: &Weighed,
-    line: &[u16; MOST_LETTERS],
-    place: u16,
-    column: usize,
-) -> u16
-    requires ready { Ready course.now }
-    requires fillable { Fillable (loop_of course.now) (letters_of course.now) }
-    requires weighs { AllWeighed (loop_of course.now) weighed.now }
-    requires row { Marked weighed.now.rows.now place }
-    requires line { Line (loop_of course.now) (letters_of course.now) place line.now }
-    requires column { column < width (letters_of course.now) }
-    ensures { Entry (loop_of course.now) (letters_of course.now) weighed.now.rows.now place column result }
-{
-    let letters = course.checked.letters.len();
-    if column < letters {
-        return cell(course, line, weighed.rows, place, column);
-    }
-    if column == letters {
-        return weighed.owed[place as usize];
-    }
-    if column - 1 == letters {
-        return weighed.span[place as usize];
-    }
-    lead_at(course, weighed, line, place)
-}
-
-/// Makes the line that of the place, at its row's first column.
-fn renew(course: &Course, place: u16, column: usize, line: &mut [u16; MOST_LETTERS])
+/// The row of a place that has one.
+fn row_of<'a>(course: &'a Course<'a>, weighed: &'a Weighed<'a>, place: u16) -> Row<'a>
     requires ready { Ready course.now }
     requires fillable { Fillable (loop_of course.now) (letters_of course.now) }
     requires inside { place < (loop_of course.now).size }
-    requires line { (column ≢ 0) → Line (loop_of course.now) (letters_of course.now) place line.old }
-    ensures { Line (loop_of course.now) (letters_of course.now) place line.new }
+    requires marked { Marked weighed.now.rows.now place }
+    ensures course { result.course.now ≡ course.now }
+    ensures weighed { result.weighed.now ≡ weighed.now }
+    ensures place { result.place ≡ place }
 {
-    if column == 0 {
-        course.line(place, line);
+    let mut line = [NO_ROW; MOST_LETTERS];
+    course.line(place, &mut line);
+    Row {
+        course,
+        weighed,
+        place,
+        line,
     }
-}
-
-/// What stands in the table at an index; the line is that of the index's row.
-fn number_at(
-    course: &Course,
-    weighed: &Weighed,
-    line: &mut [u16; MOST_LETTERS],
-    index: usize,
-) -> u16
-    requires ready { Ready course.now }
-    requires fillable { Fillable (loop_of course.now) (letters_of course.now) }
-    requires weighs { AllWeighed (loop_of course.now) weighed.now }
-    requires lined { Lined (loop_of course.now) (letters_of course.now) weighed.now.order.now weighed.now.count line.old index }
-    ensures written { Written (loop_of course.now) (letters_of course.now) weighed.now.rows.now weighed.now.order.now weighed.now.count index result }
-    ensures lined { Lined (loop_of course.now) (letters_of course.now) weighed.now.order.now weighed.now.count line.new (index + 1) }
-{
-    let width = course.checked.letters.len() + LAST_COLUMNS;
-    if index >= weighed.count as usize * width {
-        return NO_ROW;
-    }
-    let place = weighed.order[index / width];
-    let column = index % width;
-    renew(course, place, column, line);
-    entry(course, weighed, line, place, column)
 }
 
 /// Writes the whole table memory.
-pub(crate) fn write(course: &Course, weighed: &Weighed, table: &mut [u16])
+pub(crate) fn write<'a>(course: &'a Course<'a>, weighed: &'a Weighed<'a>, table: &mut [u16])
     requires ready { Ready course.now }
     requires fillable { Fillable (loop_of course.now) (letters_of course.now) }
     requires weighs { AllWeighed (loop_of course.now) weighed.now }
     requires room { (loop_of course.now).size * width (letters_of course.now) ≤ length table.old }
     ensures { Tells (loop_of course.now) (letters_of course.now) table.new weighed.now.count }
 {
-    let mut line = [NO_ROW; MOST_LETTERS];
-    for index in 0..table.len() {
-        table[index] = number_at(course, weighed, &mut line, index);
+    let width = course.checked.letters.len() + LAST_COLUMNS;
+    let count = weighed.count as usize;
+    for i in 0..count {
+        row_of(course, weighed, weighed.order[i]).write(&mut table[i * width..(i + 1) * width]);
     }
+    table[count * width..].fill(NO_ROW);
 }

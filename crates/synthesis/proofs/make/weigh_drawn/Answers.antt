@@ -2,30 +2,21 @@ use Rattle.std.proofs.Common.{arith}
 use Rattle.rules.specs.Tabled.{width}
 use Rattle.synthesis.specs.Courses.{letters_of, loop_of}
 use Rattle.synthesis.specs.Drawn.{drawing}
-use Rattle.synthesis.proofs.Agreeing.{fillable_too, weighing}
+use Rattle.synthesis.proofs.Agreeing.{Agree, fillable_too, weighing}
 use Rattle.synthesis.proofs.Drawing.{agrees}
 use Rattle.synthesis.proofs.make.weigh_drawn.Goals as goal
+use Rattle.synthesis.proofs.make.weigh_drawn.Goals.{After-boundary}
+
+-- the places that are drawn agree with those of the loop
+agree : (c : After-boundary) → Agree (loop_of c.args.course.now) (drawing c.columns_of-columns.result c.draw.new.table (width (letters_of c.args.course.now)) c.size.result c.boundary.result)
+agree c =
+    agrees (loop_of c.args.course.now) (letters_of c.args.course.now) c.requires.fillable.fair c.columns_of-columns.result c.draw.new.table c.columns_of-columns.ensures c.draw.ensures c.size.result c.boundary.result (omega (arith, c.requires.fillable.small, c.size.ensures)) c.boundary.ensures
+
+pub invariant_of-source : goal.invariant_of-source
+invariant_of-source c = record { fillable = fillable_too _ _ _ c.requires.fillable (agree (goal.at.invariant_of-source c).After-boundary) }
 
 pub weigh_rows-requires : goal.weigh_rows-requires
-weigh_rows-requires c =
-    let r = loop_of c.args.course.now in
-    let letters = letters_of c.args.course.now in
-    let columns = c.columns_of-columns.result in
-    let cells = c.draw.new.table in
-    let a = agrees r letters c.requires.fillable.fair columns cells c.columns_of-columns.ensures c.draw.ensures c.size.result c.boundary.result (omega (arith, c.requires.fillable.small, c.size.ensures)) c.boundary.ensures in
-    record {
-      fillable = fillable_too r (drawing columns cells (width letters) c.size.result c.boundary.result) letters c.requires.fillable a;
-      owed_len = omega (arith, c.requires.fillable.small, c.size.ensures, c.requires.owed);
-      rows_len = omega (arith, c.requires.fillable.small, c.size.ensures, c.requires.rows);
-      order_len = omega (arith, c.requires.fillable.small, c.size.ensures, c.requires.order);
-      span_len = omega (arith, c.requires.fillable.small, c.size.ensures, c.requires.span);
-    }
+weigh_rows-requires c = omega (arith, c.requires.size, c.size.ensures, c.requires.fillable.small)
 
 pub returns : goal.returns
-returns c =
-    let r = loop_of c.args.course.now in
-    let letters = letters_of c.args.course.now in
-    let columns = c.columns_of-columns.result in
-    let cells = c.draw.new.table in
-    let a = agrees r letters c.requires.fillable.fair columns cells c.columns_of-columns.ensures c.draw.ensures c.size.result c.boundary.result (omega (arith, c.requires.fillable.small, c.size.ensures)) c.boundary.ensures in
-    weighing r (drawing columns cells (width letters) c.size.result c.boundary.result) letters c.requires.fillable.fair a c.weigh_rows.new.rows c.weigh_rows.new.order c.weigh_rows.new.owed c.weigh_rows.new.span c.weigh_rows.result c.weigh_rows.ensures
+returns c = weighing _ _ _ c.requires.fillable.fair (agree (goal.at.returns c).After-boundary) c.weigh_rows.result c.weigh_rows.ensures

@@ -1,9 +1,0 @@
-use Rattle.std.proofs.Common.{◌-◌}
-use Rattle.synthesis.proofs.Numbering.{Numbering}
-use Rattle.synthesis.proofs.rows.number.Given as goal
-
-abbrev pub invariant-loop-head : goal.invariant-loop-head
-invariant-loop-head g l = Numbering (g.P.Places.meaning l.places) l.live l.rows l.order l.count l.head
-
-abbrev pub decreases-loop-head : goal.decreases-loop-head
-decreases-loop-head g l = (g.P.Places.meaning l.places).size - l.head

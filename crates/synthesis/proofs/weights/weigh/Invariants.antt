@@ -1,5 +1,0 @@
-use Rattle.synthesis.specs.Weights.{Owes, Spans}
-use Rattle.synthesis.proofs.weights.weigh.Given as goal
-
-abbrev pub invariant-loop-place : goal.invariant-loop-place
-invariant-loop-place g l = Owes (g.P.Places.meaning l.places) l.rows l.owed l.place × Spans (g.P.Places.meaning l.places) l.rows l.span l.place

@@ -6,6 +6,7 @@
 
 use enforcer::enforce::{Limit, enforce};
 use enforcer::offers::calls_of;
+use files::none_if_missing;
 use guard::runs::{Call, Guard, Reply, Run};
 use letters::letter::{END, Letter};
 use std::io::{ErrorKind, Read};
@@ -23,18 +24,9 @@ const WORK_NUMBERS: usize = 4_096;
 /// The length of the output of each call.
 const OUTPUT_BYTES: usize = 256;
 
-/// The bytes of a file, none where there is no such file.
-fn bytes_of(rt: &HostRuntime, path: &str) -> io::Result<Vec<u8>> {
-    match fs::read(rt, path) {
-        Ok(bytes) => Ok(bytes),
-        Err(error) => {
-            if error.kind() == ErrorKind::NotFound {
-                Ok(Vec::new(rt.alloc()))
-            } else {
-                Err(error)
-            }
-        }
-    }
+/// The bytes of a property file, none where it is missing.
+fn rule_at(rt: &HostRuntime, path: &str) -> io::Result<Vec<u8>> {
+    none_if_missing(fs::read(rt, path), rt.alloc())
 }
 
 /// The first bytes of an input.
@@ -129,14 +121,9 @@ fn bench(rt: &HostRuntime, file: &[u8], offers: &[Letter]) -> io::Result<()> {
 
 /// Benches the property of the folder that the program is run in over its standard input.
 fn bench_here(rt: &HostRuntime) -> io::Result<()> {
-    let file = bytes_of(rt, "rule.bin")?;
+    let file = rule_at(rt, "rule.bin")?;
     let offers = offered_bytes(rt, rt.stdin())?;
     bench(rt, file.as_slice(), offers.as_slice())
-}
-
-/// The bytes of a folder's rule.bin.
-fn rule_in(rt: &HostRuntime, folder: &str) -> io::Result<Vec<u8>> {
-    bytes_of(rt, format!(in rt.alloc(); "{folder}/rule.bin")?.as_str())
 }
 
 /// The first bytes of a folder's input.
@@ -150,7 +137,7 @@ fn bench_folder(rt: &HostRuntime, folder: &str) -> io::Result<()> {
     if folder == "-" {
         return bench_here(rt);
     }
-    let file = rule_in(rt, folder)?;
+    let file = rule_at(rt, format!(in rt.alloc(); "{folder}/rule.bin")?.as_str())?;
     let offers = input_in(rt, folder)?;
     bench(rt, file.as_slice(), offers.as_slice())
 }
@@ -162,13 +149,11 @@ fn bench_named(rt: &HostRuntime, folder: &str) -> io::Result<()> {
 }
 
 fn main(rt: HostRuntime) -> io::Result<()> {
-    let mut args = env::args(&rt)?;
-    let _program = args.next();
-    let Some(first) = args.next() else {
+    let folders: Vec<String> = env::args(&rt)?.skip(1).collect(rt.alloc())?;
+    if folders.is_empty() {
         return bench_here(&rt);
-    };
-    bench_named(&rt, first.as_str())?;
-    for folder in args {
+    }
+    for folder in folders.iter() {
         bench_named(&rt, folder.as_str())?;
     }
     Ok(())

@@ -2,8 +2,8 @@ use crate::plate::PLATE;
 use enforcer::enforce::{Limit, enforce};
 use enforcer::fault::EnforcerFault;
 use guard::refusal::Refusal;
-use guard::runs::{Call, Reply};
-use letters::letter::{END, Letter};
+use guard::runs::{Call, Reply, Run};
+use letters::letter::END;
 use property::fault::PropertyFault;
 use rules::fault::RuleFault;
 use std::alloc::Global;
@@ -11,46 +11,17 @@ use std::process::Abort;
 use std::test::Fail;
 use synthesis::fault::SynthesisFault;
 
-/// Expects the answers and the line of calls under the plate property with a limit.
-fn runs(
-    rt: &impl Abort,
-    heap: Global,
-    limit: Limit,
-    calls: &[Call],
-    replies: &[Reply],
-    line: &[Letter],
-) -> Result<(), Fail> {
+/// What calls come to under the property of a file with a limit.
+fn run(heap: Global, file: &[u8], limit: Limit, calls: &[Call]) -> Result<Run, EnforcerFault> {
     let mut table = [0; 45];
     let mut work = [0; 20];
-    match enforce(heap, &PLATE, limit, &mut table, &mut work, calls) {
-        Ok(run) => {
-            assert_eq!(rt; run.replies.as_slice(), replies);
-            assert_eq!(rt; run.line.as_slice(), line);
-            Ok(())
-        }
-        Err(_) => Err(Fail::new("refused")),
-    }
+    enforce(heap, file, limit, &mut table, &mut work, calls)
 }
 
-/// Expects a refusal.
-fn refuses(
-    rt: &impl Abort,
-    heap: Global,
-    file: &[u8],
-    limit: Limit,
-    fault: EnforcerFault,
-    number: u8,
-) -> Result<(), Fail> {
-    let mut table = [0; 45];
-    let mut work = [0; 20];
-    match enforce(heap, file, limit, &mut table, &mut work, &[]) {
-        Ok(_) => Err(Fail::new("not refused")),
-        Err(found) => {
-            assert_eq!(rt; found, fault);
-            assert_eq!(rt; found.number(), Some(number));
-            Ok(())
-        }
-    }
+/// Expects a refusal of a file or its limit.
+fn refuses(rt: &impl Abort, run: Result<Run, EnforcerFault>, fault: EnforcerFault, number: u8) {
+    assert_eq!(rt; run.err(), Some(fault));
+    assert_eq!(rt; fault.number(), Some(number));
 }
 
 /// Release before turning back is dropped, and a close turns back first.
@@ -72,9 +43,12 @@ fn plate(rt: HostRuntime) -> Result<(), Fail> {
         Reply::Refused(Refusal::Short),
         Reply::Closed(3),
     ];
-    let line = [96, 97, 98, 99, END];
-    runs(&rt, rt.alloc(), Limit::Unlimited, &calls, &replies, &line)?;
-    runs(&rt, rt.alloc(), Limit::Standard, &calls, &replies, &line)
+    for limit in [Limit::Unlimited, Limit::Standard] {
+        let run = run(rt.alloc(), &PLATE, limit, &calls)?;
+        assert_eq!(rt; run.replies.as_slice(), replies.as_slice());
+        assert_eq!(rt; run.line.as_slice(), [96, 97, 98, 99, END].as_slice());
+    }
+    Ok(())
 }
 
 /// Under a cap of 2 there is no room to turn.
@@ -94,28 +68,27 @@ fn capped_plate(rt: HostRuntime) -> Result<(), Fail> {
         Reply::Passed,
         Reply::Closed(1),
     ];
-    runs(
-        &rt,
-        rt.alloc(),
-        Limit::Letters(2),
-        &calls,
-        &replies,
-        &[96, 99, END],
-    )
+    let run = run(rt.alloc(), &PLATE, Limit::Letters(2), &calls)?;
+    assert_eq!(rt; run.replies.as_slice(), replies.as_slice());
+    assert_eq!(rt; run.line.as_slice(), [96, 99, END].as_slice());
+    Ok(())
 }
 
 #[test]
-fn refusals(rt: HostRuntime) -> Result<(), Fail> {
-    let limit = EnforcerFault::Limit(RuleFault::Number);
-    refuses(&rt, rt.alloc(), &PLATE, Limit::Letters(1), limit, 16)?;
-    refuses(&rt, rt.alloc(), &PLATE, Limit::Letters(256), limit, 16)?;
-    let empty = SynthesisFault::Property(PropertyFault::NoProperty(0));
+fn refusals(rt: HostRuntime) {
+    let number = EnforcerFault::Limit(RuleFault::Number);
     refuses(
         &rt,
-        rt.alloc(),
-        &[],
-        Limit::Unlimited,
-        EnforcerFault::File(empty),
-        11,
-    )
+        run(rt.alloc(), &PLATE, Limit::Letters(1), &[]),
+        number,
+        16,
+    );
+    refuses(
+        &rt,
+        run(rt.alloc(), &PLATE, Limit::Letters(256), &[]),
+        number,
+        16,
+    );
+    let empty = EnforcerFault::File(SynthesisFault::Property(PropertyFault::NoProperty(0)));
+    refuses(&rt, run(rt.alloc(), &[], Limit::Unlimited, &[]), empty, 11);
 }

@@ -1,5 +1,6 @@
 use letters::alphabet::{Alphabet, Barred};
 use letters::letter::{END, Kind, Letter, NUMBERS_A_KIND, TICK, may_insert, read};
+use letters::refusal::Report;
 use std::process::Abort;
 
 /// A letter by division, and whether it may be inserted.
@@ -46,7 +47,7 @@ fn full_alphabet(rt: HostRuntime) {
     let mut alphabet = Alphabet::new();
     assert_eq!(rt; alphabet.declare(&LETTERS), Err(Barred { offset: 30 }));
     assert_eq!(rt; alphabet.letters().len(), 2);
-    assert_eq!(rt; alphabet.declare(&LETTERS[0..30]), Ok(()));
+    assert_eq!(rt; alphabet.declare(&LETTERS[..30]), Ok(()));
     assert_eq!(rt; alphabet.letters().len(), 32);
     assert_eq!(rt; alphabet.position(32), Some(29));
     assert_eq!(rt; alphabet.position(TICK), Some(30));
@@ -61,7 +62,7 @@ fn barred_everywhere(rt: &impl Abort, byte: Letter) {
         letters[place] = byte;
         let mut alphabet = Alphabet::new();
         assert_eq!(rt;
-            alphabet.declare(&letters[0..30]),
+            alphabet.declare(&letters[..30]),
             Err(Barred { offset: place })
         );
         assert_eq!(rt; alphabet.letters().len(), 2);
@@ -70,12 +71,9 @@ fn barred_everywhere(rt: &impl Abort, byte: Letter) {
 
 #[test]
 fn barred_bytes(rt: HostRuntime) {
-    barred_everywhere(&rt, TICK);
-    barred_everywhere(&rt, END);
-    barred_everywhere(&rt, TICK + 1);
-    barred_everywhere(&rt, END - 1);
-    barred_everywhere(&rt, END + 1);
-    barred_everywhere(&rt, 255);
+    for byte in [TICK, END, TICK + 1, END - 1, END + 1, 255] {
+        barred_everywhere(&rt, byte);
+    }
 }
 
 #[test]
@@ -83,6 +81,10 @@ fn not_ascending(rt: HostRuntime) {
     let mut alphabet = Alphabet::new();
     assert_eq!(rt; alphabet.declare(&[96, 96]), Err(Barred { offset: 1 }));
     assert_eq!(rt; alphabet.declare(&[96, 97, 5]), Err(Barred { offset: 2 }));
-    let report = Barred { offset: 2 }.report();
-    assert!(rt; report.layer == 2 && report.number == 5 && report.offset == 2);
+    let report = Report {
+        layer: 2,
+        number: 5,
+        offset: 2,
+    };
+    assert_eq!(rt; Barred { offset: 2 }.report(), report);
 }

@@ -1,37 +1,27 @@
+use crate::plate::PLATE;
 use crate::reading::read_through;
 use letters::letter::END;
+use letters::refusal::Report;
 use records::body::{Branch, branch_at, branch_count, number};
 use records::fault::ReadFault;
 use std::test::Fail;
-
-/// The plate property, 71 bytes.
-const PLATE: [u8; 71] = [
-    1, 0, 1, 0, 96, 1, 0, 1, 0, 97, 1, 0, 1, 0, 98, 1, 0, 1, 0, 99, 0, 0, 2, 0, 3, 0, 3, 0, END, 0,
-    0, 3, 0, 3, 0, 99, 1, 0, 3, 0, 3, 0, 98, 2, 0, 6, 0, 3, 0, 97, 3, 0, 99, 1, 0, 6, 0, 3, 0, 96,
-    4, 0, END, 0, 0, 2, 0, 6, 0, 5, 0,
-];
 
 /// Where the records of the plate property begin, and where the last ends.
 const STARTS: [usize; 12] = [0, 5, 10, 15, 20, 24, 31, 38, 45, 55, 65, 71];
 
 /// What reading the first bytes of the plate property comes to.
 fn expected(length: usize) -> Result<usize, ReadFault> {
-    let mut begun = 0;
-    for (count, start) in STARTS.iter().enumerate() {
-        if *start == length {
-            return Ok(count);
-        }
-        if *start < length {
-            begun = *start;
-        }
+    if let Some(count) = STARTS.iter().position(|start| *start == length) {
+        return Ok(count);
     }
-    Err(ReadFault::CutOff(begun))
+    let begun = STARTS.iter().copied().filter(|start| *start < length).max();
+    Err(ReadFault::CutOff(begun.unwrap_or(0)))
 }
 
 #[test]
 fn every_cut(rt: HostRuntime) {
-    for length in 0..=71usize {
-        assert_eq!(rt; read_through(&PLATE[0..length]), expected(length));
+    for length in 0..=PLATE.len() {
+        assert_eq!(rt; read_through(&PLATE[..length]), expected(length));
     }
 }
 
@@ -40,7 +30,7 @@ fn suits(kind: u8, length: u8) -> bool {
     match kind {
         1 => length == 1,
         2 => length == 0,
-        3 => length > 0 && length <= 96 && length % 3 == 0,
+        3 => (1..=96).contains(&length) && length % 3 == 0,
         6 => length == 2,
         _ => length == 4,
     }
@@ -51,7 +41,7 @@ fn read_zeros(kind: u8, length: u8) -> Result<usize, ReadFault> {
     let mut file = [0u8; 260];
     file[0] = length;
     file[2] = kind;
-    read_through(&file[0..length as usize + 4])
+    read_through(&file[..usize::from(length) + 4])
 }
 
 #[test]
@@ -92,16 +82,21 @@ fn longest_file(rt: HostRuntime) -> Result<(), Fail> {
     Ok(())
 }
 
+/// A report of the reader's layer.
+fn report(number: u8, offset: usize) -> Report {
+    Report {
+        layer: 1,
+        number,
+        offset,
+    }
+}
+
 #[test]
 fn reports(rt: HostRuntime) {
-    let too_long = ReadFault::TooLong.report();
-    assert!(rt; too_long.layer == 1 && too_long.number == 1 && too_long.offset == 0);
-    let cut_off = ReadFault::CutOff(7).report();
-    assert!(rt; cut_off.layer == 1 && cut_off.number == 2 && cut_off.offset == 7);
-    let kind = ReadFault::UnknownKind(8).report();
-    assert!(rt; kind.layer == 1 && kind.number == 3 && kind.offset == 8);
-    let length = ReadFault::WrongLength(9).report();
-    assert!(rt; length.layer == 1 && length.number == 4 && length.offset == 9);
+    assert_eq!(rt; ReadFault::TooLong.report(), report(1, 0));
+    assert_eq!(rt; ReadFault::CutOff(7).report(), report(2, 7));
+    assert_eq!(rt; ReadFault::UnknownKind(8).report(), report(3, 8));
+    assert_eq!(rt; ReadFault::WrongLength(9).report(), report(4, 9));
 }
 
 #[test]

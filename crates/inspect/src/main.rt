@@ -3,60 +3,41 @@
 //! first fault, and the refusal. Several files are headed by their names.
 #![tactic(auto)]
 
+use files::none_if_missing;
 use letters::alphabet::Alphabet;
 use letters::letter::{Kind, Letter, read};
+use letters::refusal::Report;
 use property::check::read_property;
 use property::fault::PropertyFault;
 use property::place::Nodes;
 use property::sizes::MOST_SIZE;
 use records::body::{branch_at, branch_count, number};
-use records::fault::ReadFault;
 use records::reader::Reader;
 use records::record::Record;
-use std::io::ErrorKind;
 use std::{env, fs, io};
-
-/// The bytes of a file, none where there is no such file.
-fn bytes_of(rt: &HostRuntime, path: &str) -> io::Result<Vec<u8>> {
-    match fs::read(rt, path) {
-        Ok(bytes) => Ok(bytes),
-        Err(error) => {
-            if error.kind() == ErrorKind::NotFound {
-                Ok(Vec::new(rt.alloc()))
-            } else {
-                Err(error)
-            }
-        }
-    }
-}
 
 /// Prints a letter by its kind and number, and its byte.
 fn print_letter(rt: &HostRuntime, byte: Letter) -> io::Result<()> {
     match read(byte) {
-        Some((Kind::Sensor, number)) => print!(rt; "sensor {number} ({byte})"),
-        Some((Kind::Received, number)) => print!(rt; "received {number} ({byte})"),
-        Some((Kind::Sent, number)) => print!(rt; "sent {number} ({byte})"),
-        Some((Kind::Command, number)) => print!(rt; "command {number} ({byte})"),
-        Some((Kind::Tick, _)) => print!(rt; "tick ({byte})"),
-        Some((Kind::End, _)) => print!(rt; "end ({byte})"),
+        Some((kind @ (Kind::Tick | Kind::End), _)) => print!(rt; "{kind} ({byte})"),
+        Some((kind, number)) => print!(rt; "{kind} {number} ({byte})"),
         None => print!(rt; "no letter ({byte})"),
     }
 }
 
 /// Prints the branches of a Choice, as the letter and the node that follows it.
 fn print_branches(rt: &HostRuntime, body: &[u8]) -> io::Result<()> {
-    for index in 0..branch_count(body) {
-        if let Some(branch) = branch_at(body, index) {
-            print!(rt; "{}", if index == 0 { ": " } else { ", " })?;
-            print_letter(rt, branch.letter)?;
-            let node = branch.node;
-            print!(rt; " -> {node}")?;
-        }
+    let branches = (0..branch_count(body)).filter_map(|index| branch_at(body, index));
+    for (n, branch) in branches.enumerate() {
+        print!(rt; "{}", if n == 0 { ": " } else { ", " })?;
+        print_letter(rt, branch.letter)?;
+        let node = branch.node;
+        print!(rt; " -> {node}")?;
     }
     println!(rt; "")
 }
 
-/// Prints the one node that a body names, or the two.
+/// Prints the nodes that a body names: none, one or two.
 fn print_nodes(rt: &HostRuntime, body: &[u8]) -> io::Result<()> {
     match (number(body, 0), number(body, 2)) {
         (Some(first), Some(second)) => println!(rt; ": {first}, {second}"),
@@ -67,30 +48,10 @@ fn print_nodes(rt: &HostRuntime, body: &[u8]) -> io::Result<()> {
 
 /// Prints a node: its offset, kind and number, and what it names.
 fn print_node(rt: &HostRuntime, at: usize, record: Record, node: usize) -> io::Result<()> {
-    let body = record.body();
+    print!(rt; "{at} {record} node {node}")?;
     match record {
-        Record::Letter(_) => Ok(()),
-        Record::Nothing(_) => println!(rt; "{at} Nothing node {node}"),
-        Record::Choice(_) => {
-            print!(rt; "{at} Choice node {node}")?;
-            print_branches(rt, body)
-        }
-        Record::Sequence(_) => {
-            print!(rt; "{at} Sequence node {node}")?;
-            print_nodes(rt, body)
-        }
-        Record::Both(_) => {
-            print!(rt; "{at} Both node {node}")?;
-            print_nodes(rt, body)
-        }
-        Record::Lap(_) => {
-            print!(rt; "{at} Lap node {node}")?;
-            print_nodes(rt, body)
-        }
-        Record::All(_) => {
-            print!(rt; "{at} All node {node}")?;
-            print_nodes(rt, body)
-        }
+        Record::Choice(body) => print_branches(rt, body),
+        _ => print_nodes(rt, record.body()),
     }
 }
 
@@ -103,20 +64,10 @@ fn print_declared(rt: &HostRuntime, at: usize, body: &[u8]) -> io::Result<()> {
     println!(rt; "")
 }
 
-/// What is wrong with a file's records, in words.
-fn read_reason(fault: ReadFault) -> &'static str {
-    match fault {
-        ReadFault::TooLong => "the file is over 16384 bytes",
-        ReadFault::CutOff(_) => "the record is cut off",
-        ReadFault::UnknownKind(_) => "there is no such kind of record",
-        ReadFault::WrongLength(_) => "the length is wrong for the kind",
-    }
-}
-
-/// What is wrong with a file, in words.
-fn reason(fault: PropertyFault) -> &'static str {
-    match fault {
-        PropertyFault::Read(fault) => read_reason(fault),
+/// Prints what is wrong with a file, in words.
+fn print_reason(rt: &HostRuntime, fault: PropertyFault) -> io::Result<()> {
+    let words = match fault {
+        PropertyFault::Read(fault) => return println!(rt; "{fault}"),
         PropertyFault::Declaration(_) => "the letter may not be declared here",
         PropertyFault::TooManyNodes(_) => "there are over 256 nodes",
         PropertyFault::NotEarlier(_) => "a node that it names is not earlier",
@@ -125,16 +76,15 @@ fn reason(fault: PropertyFault) -> &'static str {
             "branch letters do not ascend, or are not in the alphabet",
         PropertyFault::OpenLap(_) => "the lap is over a node that does not close",
         PropertyFault::NoProperty(_) => "there is no node, or the last is neither a lap nor an all",
-    }
+    };
+    println!(rt; "{words}")
 }
 
 /// Prints a refusal with its reason.
 fn print_refusal(rt: &HostRuntime, fault: PropertyFault) -> io::Result<()> {
-    let report = fault.report();
-    let number = report.number;
-    let offset = report.offset;
-    let reason = reason(fault);
-    println!(rt; "refused {number} at {offset}: {reason}")
+    let Report { number, offset, .. } = fault.report();
+    print!(rt; "refused {number} at {offset}: ")?;
+    print_reason(rt, fault)
 }
 
 /// Prints the records that begin before an offset, and the counts where that is the end of the file.
@@ -143,23 +93,23 @@ fn list(rt: &HostRuntime, file: &[u8], stop: usize) -> io::Result<()> {
         return Ok(());
     };
     let mut letters = 0usize;
-    let mut nodes = 0usize;
+    let mut nodes = 0;
     while let Ok(Some((record, at))) = reader.next() {
         if at >= stop {
             return Ok(());
         }
         if let Record::Letter(body) = record {
             print_declared(rt, at, body)?;
-            letters = letters.saturating_add(1);
+            letters += 1;
         } else {
             print_node(rt, at, record, nodes)?;
-            nodes = nodes.saturating_add(1);
+            nodes += 1;
         }
     }
-    if stop < file.len() {
+    let bytes = file.len();
+    if stop < bytes {
         return Ok(());
     }
-    let bytes = file.len();
     println!(rt; "{bytes} bytes, {letters} letters, {nodes} nodes")
 }
 
@@ -196,7 +146,7 @@ fn show(rt: &HostRuntime, file: &[u8]) -> io::Result<()> {
 
 /// Lists the file at a path.
 fn inspect(rt: &HostRuntime, path: &str) -> io::Result<()> {
-    let file = bytes_of(rt, path)?;
+    let file = none_if_missing(fs::read(rt, path), rt.alloc())?;
     show(rt, file.as_slice())
 }
 
@@ -207,18 +157,15 @@ fn inspect_named(rt: &HostRuntime, path: &str) -> io::Result<()> {
 }
 
 fn main(rt: HostRuntime) -> io::Result<()> {
-    let mut args = env::args(&rt)?;
-    let _program = args.next();
-    let Some(first) = args.next() else {
-        return inspect(&rt, "rule.bin");
-    };
-    let Some(second) = args.next() else {
-        return inspect(&rt, first.as_str());
-    };
-    inspect_named(&rt, first.as_str())?;
-    inspect_named(&rt, second.as_str())?;
-    for path in args {
-        inspect_named(&rt, path.as_str())?;
+    let paths: Vec<String> = env::args(&rt)?.skip(1).collect(rt.alloc())?;
+    match paths.as_slice() {
+        [] => inspect(&rt, "rule.bin"),
+        [path] => inspect(&rt, path.as_str()),
+        several => {
+            for path in several {
+                inspect_named(&rt, path.as_str())?;
+            }
+            Ok(())
+        }
     }
-    Ok(())
 }

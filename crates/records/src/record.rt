@@ -1,6 +1,8 @@
 ghost use Rattle.std.specs.Prelude.{◌≡◌};
 ghost use Rattle.records.specs.Records.{body_of};
 
+use std::fmt;
+
 /// A record of a property file, by its kind, with its body where the file has it.
 #[derive(Clone, Copy)]
 pub enum Record<'a> {
@@ -27,5 +29,19 @@ impl<'a> Record<'a> {
             | Record::Lap(body)
             | Record::All(body) => body,
         }
+    }
+}
+
+impl<'a> fmt::Display for Record<'a> {
+    fn fmt<W: fmt::Write>(&self, f: &mut fmt::Formatter<W>) -> fmt::Result {
+        f.write_str(match self {
+            Record::Letter(_) => "Letter",
+            Record::Nothing(_) => "Nothing",
+            Record::Choice(_) => "Choice",
+            Record::Sequence(_) => "Sequence",
+            Record::Both(_) => "Both",
+            Record::Lap(_) => "Lap",
+            Record::All(_) => "All",
+        })
     }
 }

@@ -25,6 +25,7 @@ pub fn calls_of(heap: Global, offers: &[Letter], room: usize) -> Result<Vec<Call
     ensures begins { (m : Meaning) → Lawful m → m.most < room → BeginsAtRest (run_of m (calls_of room offers.now)) }
 {
     let mut calls = Vec::new(heap);
+    // A flag and one loop: cut at the ends, the offers would take two loops, and the last piece need not have an end.
     let mut open = false;
     for letter in offers {
         if !open {

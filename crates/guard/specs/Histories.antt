@@ -9,7 +9,7 @@ use Rattle.guard.specs.declared.runs.Reply.TheVariants.{Begun, Passed, Dropped, 
 use Rattle.guard.specs.declared.runs.Guard.{Guard}
 use Rattle.guard.specs.declared.runs.Guard.TheVariants.{AtRest, InCycle}
 use Rattle.guard.specs.declared.runs.Run.{Run}
-use Rattle.guard.specs.Calls.{resting, running, Acting, refused, dropped, passed, acting, act_guard, act_writes, Closing, barred, closed, closing, close_place, close_writes}
+use Rattle.guard.specs.Calls.{over, resting, running, Acting, refused, dropped, passed, acting, act_guard, act_writes, Closing, barred, closed, closing, close_place, close_writes}
 use Rattle.guard.specs.Runs.{Event, line}
 
 -- what one call does: the guard after it, its answer, and the letters that it writes
@@ -60,10 +60,11 @@ number_written (Closed n) = n
 number_written (Refused e) = 0
 number_written NoCall = 0
 
--- what making a call gives: the guard and the answer
-pub record Makes (s : Step) (x : Guard × Reply) : Type 0 where
+-- what making a call gives: the guard and the answer, and what it leaves in its output
+pub record Makes (s : Step) (x : Guard × Reply) (out_before out_after : List ℕ) : Type 0 where
   pub guard : x.0 ≡ s.guard
   pub reply : x.1 ≡ s.reply
+  pub wrote : out_after ≡ over s.wrote out_before
 
 -- a run after a call: its guard, and the answers and the line with what the call added
 pub record Takes (s : Step) (x y : Run) : Type 0 where

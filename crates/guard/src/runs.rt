@@ -1,9 +1,10 @@
 ghost use Rattle.std.specs.Prelude.{◌≡◌, length, IfOk};
 ghost use Rattle.rules.specs.Meaning.{Lawful};
 ghost use Rattle.rules.specs.Valued.{meaning};
-ghost use Rattle.guard.specs.Calls.{over, acting, closing};
-ghost use Rattle.guard.specs.Histories.{step, act_step, close_step, run_of, room, number_written, Makes, Takes, Told};
+ghost use Rattle.guard.specs.Histories.{step, run_of, room, number_written, Makes, Takes, Told};
 ghost use Rattle.guard.specs.Runs.{Guarded};
+ghost use Rattle.guard.specs.declared.runs.Call.TheVariants.{Act, Close};
+ghost use Rattle.guard.specs.declared.runs.Guard.TheVariants.{InCycle};
 
 use crate::calls::{Answer, Resting, Running, start};
 use crate::refusal::Refusal;
@@ -59,7 +60,7 @@ impl Call {
 
 impl Reply {
     /// How many letters a call with this answer wrote.
-    fn written(self) -> usize
+    pub fn written(self) -> usize
         ensures { result ≡ number_written self }
     {
         match self {
@@ -77,8 +78,7 @@ fn make_act<R: Rule>(
     letter: Letter,
     out: &mut [Letter],
 ) -> (Guard, Reply)
-    ensures made { Makes (act_step (acting (meaning R.Rule rule.now) running letter (length out.old)) running letter) result }
-    ensures wrote { out.new ≡ over (act_step (acting (meaning R.Rule rule.now) running letter (length out.old)) running letter).wrote out.old }
+    ensures { Makes (step (meaning R.Rule rule.now) (InCycle running) (Act letter (length out.old))) result out.old out.new }
 {
     let reply = match running.act(rule, letter, out) {
         Ok(Answer::Passed) => Reply::Passed,
@@ -90,8 +90,7 @@ fn make_act<R: Rule>(
 
 /// Closes a running guard's cycle.
 fn make_close<R: Rule>(rule: &R, running: Running, out: &mut [Letter]) -> (Guard, Reply)
-    ensures made { Makes (close_step (meaning R.Rule rule.now) (closing (meaning R.Rule rule.now) running (length out.old)) running) result }
-    ensures wrote { out.new ≡ over (close_step (meaning R.Rule rule.now) (closing (meaning R.Rule rule.now) running (length out.old)) running).wrote out.old }
+    ensures { Makes (step (meaning R.Rule rule.now) (InCycle running) (Close (length out.old))) result out.old out.new }
 {
     match running.close(rule, out) {
         Ok((resting, count)) => (Guard::AtRest(resting), Reply::Closed(count)),
@@ -103,8 +102,7 @@ impl Guard {
     /// Makes one call with an output of its length, and gives the guard after it and its answer.
     fn make<R: Rule>(self, rule: &R, call: Call, out: &mut [Letter]) -> (Guard, Reply)
         requires { length out.old ≡ room call }
-        ensures made { Makes (step (meaning R.Rule rule.now) self call) result }
-        ensures wrote { out.new ≡ over (step (meaning R.Rule rule.now) self call).wrote out.old }
+        ensures { Makes (step (meaning R.Rule rule.now) self call) result out.old out.new }
     {
         match (self, call) {
             (Guard::AtRest(resting), Call::Begin) => {

@@ -1,8 +1,6 @@
 -- The tests of the rows pass exactly where the table is lawful.
-use Rattle.std.proofs.Common.{◌≡◌, ℕ, ◌+◌, ◌<◌, ◌≤◌, Bool, true, false, cond, not, ◌&&◌, ◌||◌, eqb, ltb, leb, List, length, get_or, is_some as option_is_some, Some, None, Option, Bor, sym, refl, ap, ◌∙◌, subst, ⊎_elim, arith}
-use Rattle.std.specs.Slice.{IsItemAt}
-use Rattle.std.specs.Option.{option_copied}
-use Rattle.std.proofs.lemmas.Bool.{both_ways, leb-true, le-leb, ltb-true, lt-ltb, le-ltb, eqb-true, eqb-false, eq-eqb, ne_eqb, and_parts, and_from, or_cases, or_left, or_right, not-true, not_from_false, cases_Bool, cases_lt, false≢true, cond-true, cond-false}
+use Rattle.std.proofs.Common.{◌≡◌, ℕ, ◌+◌, ◌<◌, ◌≤◌, Bool, true, false, cond, not, ◌&&◌, ◌||◌, eqb, ltb, leb, List, length, get_or, is_some as option_is_some, Some, None, Option, sym, refl, ap, ◌∙◌, ⊎_elim, arith}
+use Rattle.std.proofs.lemmas.Bool.{both_ways, leb-true, le-leb, ltb-true, lt-ltb, eqb-true, eqb-false, eq-eqb, ne_eqb, and_parts, and_from, or_cases, or_left, or_right, not-true, not_from_false, cases_Bool, false≢true, cond-true, cond-false}
 use Rattle.letters.specs.Letters.{letter, end, insertable}
 use Rattle.letters.specs.Alphabets.{position, each_a_letter, ascending_from}
 use Rattle.rules.specs.Lists.{and_then}
@@ -204,21 +202,3 @@ pub rows_unlawful : (letters memory : List ℕ) (rows most : ℕ) (r : Bool) →
     → r ≡ tests letters memory rows most → r ≡ false → Lawful (tabled letters memory rows) → ⊥
 rows_unlawful letters memory rows most r ascends e t lawful =
     both_ways (tests letters memory rows most) (sym e ∙ t) ((all_decides _ rows).1 (complete letters memory rows _ ascends lawful))
-
--- the number at an index of a memory, by `get` and `copied`
-got_in : (memory : List ℕ) (i : ℕ) (o : Option (Bor ℕ)) → i < length memory → IsItemAt memory i o → option_copied o ≡ Some (get_or memory i 0)
-got_in memory i None below h = absurd (omega (arith, h.3))
-got_in memory i (Some x) below h = ap Some (h.3.1 0)
-
-got_past : (memory : List ℕ) (i : ℕ) (o : Option (Bor ℕ)) → length memory ≤ i → IsItemAt memory i o → option_copied o ≡ None
-got_past memory i None past h = refl
-got_past memory i (Some x) past h = absurd (omega (arith, h.3.0))
-
--- the same at an index j that is i, where i lies in the memory
-pub got : (memory : List ℕ) (i j : ℕ) (o : Option (Bor ℕ)) → (i < length memory → i ≡ j) → (length memory ≤ i → length memory ≤ j) → IsItemAt memory j o
-    → option_copied o ≡ cond (ltb i (length memory)) (Some (get_or memory i 0)) None
-got memory i j o same past h =
-    ⊎_elim
-    (λ below. got_in memory i o below (subst (λ k. IsItemAt memory k o) (sym (same below)) h) ∙ sym (cond-true _ _ _ (lt-ltb _ _ below)))
-    (λ beyond. got_past memory j o (past beyond) h ∙ sym (cond-false _ _ _ (le-ltb _ _ beyond)))
-    (cases_lt i (length memory))

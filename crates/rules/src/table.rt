@@ -66,10 +66,13 @@ impl<'a> Table<'a> {
             return None;
         }
         let width = self.letters.len() + LAST_COLUMNS;
-        let index = (place as usize)
-            .saturating_mul(width)
-            .saturating_add(column);
-        self.memory.get(index).copied()
+        // One test in 128 bits: the library's checked and saturating products divide, and then `get` tests again.
+        let index = place as u128 * width as u128 + column as u128;
+        if index < self.memory.len() as u128 {
+            Some(self.memory[index as usize])
+        } else {
+            None
+        }
     }
 
     /// The number in a column of a live place's row, else 0.

@@ -10,7 +10,7 @@ pub slice_bounds-extend_from_slice-end : goal.slice_bounds-extend_from_slice-end
 slice_bounds-extend_from_slice-end g c =
     let m = meaning g.R.Rule c.args.rule.now in
     let s : Step = step m c.args.self.guard c.args.call in
-    let n : c.written.result ≡ length s.wrote = c.written.ensures ∙ ap number_written c.make-guard.ensures.made.reply ∙ step_count m c.args.self.guard c.args.call in
+    let n : c.written.result ≡ length s.wrote = c.written.ensures ∙ ap number_written c.make-guard.ensures.reply ∙ step_count m c.args.self.guard c.args.call in
     let h = over_within s.wrote c.as_mut_slice-out.result.now c.make-guard.new.out c.make-guard.ensures.wrote c.make-guard.auto.out in
     sym (length-take-le _ _ (omega (arith, n, h, c.make-guard.auto.out)))
 
@@ -18,7 +18,7 @@ pub returns : goal.returns
 returns g c =
     let m = meaning g.R.Rule c.args.rule.now in
     let s : Step = step m c.args.self.guard c.args.call in
-    let made = c.make-guard.ensures.made in
+    let made = c.make-guard.ensures in
     let n : c.written.result ≡ length s.wrote = c.written.ensures ∙ ap number_written made.reply ∙ step_count m c.args.self.guard c.args.call in
     let front = over_front s.wrote c.as_mut_slice-out.result.now c.make-guard.new.out _ c.make-guard.ensures.wrote n in
     record {

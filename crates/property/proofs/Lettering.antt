@@ -1,6 +1,6 @@
 -- The letters declared so far, and one more, are such as may be declared.
 use Rattle.std.proofs.Common.{◌≡◌, ℕ, suc, ◌+◌, ◌-◌, ◌<◌, ◌≤◌, Bool, true, false, cond, ◌||◌, eqb, List, [], ◌∷◌, ◌++◌, length, get_or, take, set, is_some, Some, None, Option, sym, refl, ap, ◌∙◌, subst, add-zero, arith, ne_eqb}
-use Rattle.std.proofs.lemmas.List.{take_more_set, length-take-le, get_or-take}
+use Rattle.std.proofs.lemmas.List.{take_more_set, length-take-le}
 use Rattle.letters.specs.Alphabets.{first_barred, barred, among, most_declared}
 use Rattle.letters.proofs.Declaring.{none_further, declared_byte}
 use Rattle.property.specs.Checks.{least_past}
@@ -63,16 +63,6 @@ pub still_lawful : (ls : List ℕ) (n b : ℕ) → n < length ls → is_some (fi
 still_lawful ls n b h e f =
     ap (λ ds. is_some (first_barred 0 0 ds)) (take_more_set ls n b h)
     ∙ ap is_some (one_more (take n ls) b (lawful (take n ls) e) f)
-
-pub least_at : (ls : List ℕ) (n : ℕ) → n ≤ length ls → (n ≡ 0 → ⊥) → get_or ls (n - 1) 0 + 1 ≡ least_past (take n ls)
-least_at ls n h z =
-    let k : length (take n ls) ≡ n = length-take-le n ls h in
-    let z' : length (take n ls) ≡ 0 → ⊥ = λ e. z (sym k ∙ e) in
-    let one : get_or ls (n - 1) 0 + 1 ≡ suc (get_or ls (n - 1) 0) = omega arith in
-    one
-    ∙ ap suc (sym (get_or-take n ls (n - 1) 0 (omega arith)))
-    ∙ ap (λ m. suc (get_or (take n ls) (m - 1) 0)) (sym k)
-    ∙ sym (ap (λ t. cond t 0 (suc (get_or (take n ls) (length (take n ls) - 1) 0))) (ne_eqb (length (take n ls)) 0 z'))
 
 or_or : (a b d : Bool) → (a || (b || d)) ≡ ((a || b) || d)
 or_or true b d = refl

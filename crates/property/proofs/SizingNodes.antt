@@ -1,5 +1,5 @@
 -- The size of a program's node, by its kind, from the sizes kept of the earlier ones.
-use Rattle.std.proofs.Common.{zip, take, length-take-le, ◌≡◌, ℕ, ◌+◌, ◌*◌, ◌<◌, ◌≤◌, max, Bool, true, false, cond, ◌&&◌, ◌||◌, ltb, ◌⊎◌, List, [], ◌∷◌, length, get_or, set, sym, refl, ap, ◌∙◌, subst, ap₂, inl, inr, arith, get_or-set_other, get_or-set_same}
+use Rattle.std.proofs.Common.{zip, take, length-take-le, ◌≡◌, ℕ, ◌+◌, ◌*◌, ◌<◌, ◌≤◌, max, Bool, true, false, cond, ◌||◌, ltb, ◌⊎◌, List, [], ◌∷◌, length, get_or, set, sym, refl, ap, ◌∙◌, subst, ap₂, inl, inr, arith, get_or-set_other, get_or-set_same}
 use lib.ListN.{get_or-map}
 use Rattle.std.proofs.lemmas.List.{get_or_past, get_or-take}
 use Rattle.std.proofs.lemmas.Bool.{and_parts, ltb-true}
@@ -49,11 +49,6 @@ cut_cond false x y e = refl
 pub or_none : (x : Bool) → x ≡ (x || false)
 or_none true = refl
 or_none false = refl
-
-pub and_none : (x y : Bool) → x ≡ (x || (y && false))
-and_none true y = refl
-and_none false true = refl
-and_none false false = refl
 
 module _ (file : List ℕ) (nodes : List Node) where
   node_meant : (n : ℕ) (x : Node) → get_or nodes n Nothing ≡ x → N.node (all_meant file nodes) n ≡ meant file x

@@ -1,12 +1,9 @@
-ghost use Rattle.std.specs.Prelude.{◌≡◌, ℕ, ◌+◌, ◌*◌, ◌<◌, false, not, List, ◌++◌, length, take, drop, nat_lt, slice_index_or};
+ghost use Rattle.std.specs.Prelude.{◌≡◌, ◌+◌, ◌*◌, ◌<◌, not, ◌++◌, length, take, drop};
 ghost use Rattle.letters.specs.Alphabets.{among, bare};
 ghost use Rattle.records.specs.Records.{two_bytes, branch_bytes};
 ghost use Rattle.property.specs.Checks.{names, branch_letters};
-ghost use Rattle.std.specs.List.{list_all};
-ghost use Rattle.property.specs.Closing.{branch_closes, each_closes};
 ghost use Rattle.property.specs.Drafts.{out, first_out};
-ghost use Rattle.property.specs.Meant.{all_meant};
-ghost use Rattle.property.specs.Nodes.{branches, node, is_loop};
+ghost use Rattle.property.specs.Nodes.{branches, node};
 ghost use Rattle.property.specs.Nodes as N;
 
 use letters::alphabet::contains;

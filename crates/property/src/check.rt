@@ -1,14 +1,11 @@
-ghost use Rattle.std.specs.Prelude.{◌≡◌, ℕ, ◌+◌, ◌*◌, ◌^◌, ◌<◌, ◌≤◌, true, false, List, [], ◌++◌, length, take, drop, OnOk, nat_lt, slice_index_or};
+ghost use Rattle.std.specs.Prelude.{◌≡◌, ℕ, ◌+◌, ◌^◌, ◌<◌, ◌≤◌, true, List, [], ◌++◌, length, take, drop, OnOk};
 ghost use Rattle.letters.specs.Alphabets.{bare};
-ghost use Rattle.records.specs.Records.{kind_of, body_of, suits, header_bytes, branch_bytes};
+ghost use Rattle.records.specs.Records.{kind_of, body_of, suits, header_bytes};
 ghost use Rattle.records.specs.Readers.{item_of};
 ghost use Rattle.records.specs.Readings.{reading};
-ghost use Rattle.property.specs.Checks.{names, named_earlier, named_kinds, letters_in_order, lap_closes, node_fault, barred_next, judge, has_property, checked};
-ghost use Rattle.std.specs.List.{list_all};
-ghost use Rattle.property.specs.Closing.{closes_by};
+ghost use Rattle.property.specs.Checks.{letters_in_order, lap_closes, node_fault, barred_next, judge, has_property, checked};
 ghost use Rattle.property.specs.Drafts.{declared_in, parts_of, parts, with_parts, refused, Kept};
 ghost use Rattle.property.specs.Meant.{meant, listed};
-ghost use Rattle.property.specs.Nodes as N;
 ghost use Rattle.property.specs.Nodes.{node_of};
 ghost use Rattle.property.specs.Placed.{nodes_in, closing_in, closings, last_offset, Emptied, answer, AlphabetAfter, PlaceAfter};
 

@@ -52,6 +52,7 @@ impl Listed<'_> {
     {
         mark_alone(n, marked);
         if n < self.nodes.len() {
+            // By number, and not along a slice: each step may mark any of the nodes still to come.
             for m in (0..n + 1).rev() {
                 self.mark_named(m, marked);
             }

@@ -1,7 +1,5 @@
-ghost use Rattle.std.specs.Prelude.{zip, ◌≡◌, ℕ, ◌+◌, ◌*◌, ◌<◌, ◌≤◌, length, slice_index_or};
-ghost use Rattle.property.specs.Checks.{most_nodes};
-ghost use Rattle.property.specs.Meant.{listed, meant};
-ghost use Rattle.property.specs.Nodes as N;
+ghost use Rattle.std.specs.Prelude.{zip, ◌≡◌, ℕ, ◌+◌, ◌*◌, ◌<◌, length, slice_index_or};
+ghost use Rattle.property.specs.Meant.{listed};
 ghost use Rattle.property.specs.Placed.{closing_in, nodes_in, sizes_in, sizes_of, stored};
 ghost use Rattle.property.specs.Sized.{NamesEarlier, Kept, FamilyTestIsExact, counted, cut, marked_sum};
 ghost use Rattle.property.specs.Sizes.{size};

@@ -1,4 +1,4 @@
-ghost use Rattle.std.specs.Prelude.{◌≡◌, ℕ, Bool, length, nat_lt};
+ghost use Rattle.std.specs.Prelude.{◌≡◌, ℕ, Bool};
 ghost use Rattle.std.specs.List.{list_all};
 ghost use Rattle.property.specs.Checks.{names, named_earlier, named_kinds};
 ghost use Rattle.property.specs.Meant.{meant, listed};

@@ -35,9 +35,6 @@ pub record Told (P : ℕ → Bool) (w j : ℕ) : Type 0 where
   pub rest : (k : ℕ) → j ≤ k → bit w k ≡ false
 
 module _ (P : ℕ → Bool) where
-  pub told_none : Told P 0 0
-  told_none = record { told = λ k h. absurd (omega arith); rest = λ k h. bit_zero k }
-
   module _ (w j : ℕ) (so : Told P w j) where
     pub told_skip : P j ≡ false → Told P w (j + 1)
     told_skip e = record {

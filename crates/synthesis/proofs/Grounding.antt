@@ -29,9 +29,6 @@ module _ (file : List ℕ) (place : Nodes) where
   product_as n x a b e (inl f) = inl (node_as n x (Both a b) e f)
   product_as n x a b e (inr f) = inr (node_as n x (All a b) e f)
 
-  pub inside : (ns : List Node) (n : ℕ) → ns ≡ stored place → n < length (nodes_in file place) → n < length ns
-  inside ns n e h = omega (arith, node_count, ap length e)
-
   module _ (letters : List ℕ) (g : Grounds file place letters) where
     pub size_read : (xs : List ℕ) (n : ℕ) → xs ≡ sizes_in place → n < length (nodes_in file place) → get_or xs n 0 ≡ cut (size (nodes_in file place) n)
     unfolding sizes_of

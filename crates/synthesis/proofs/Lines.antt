@@ -4,15 +4,11 @@ use Rattle.std.proofs.lemmas.Nat.{div_below, mod_below, mul-le}
 use Rattle.std.proofs.lemmas.Bool.{cases_lt, lt-ltb, le-ltb}
 use Rattle.letters.specs.Alphabets.{most_letters}
 use Rattle.property.specs.Nodes.{Node, Sequence, Both, Lap, All, node}
-use Rattle.property.specs.Numbered.{before}
 use Rattle.property.specs.Sized.{most_size, cut}
 use Rattle.property.specs.Sizes.{size}
-use Rattle.property.proofs.Numbering.{before_lt}
 use Rattle.places.specs.Walks.{Walk, then_second, sequence_walk, both_walk, meet, shift}
 use Rattle.places.specs.declared.outcome.Outcome.{Outcome}
 use Rattle.places.specs.declared.outcome.Outcome.TheVariants.{Dead, Done, At}
-use Rattle.places.proofs.Branches.{sound_as}
-use Rattle.places.proofs.Equations.{size_of_kind}
 use Rattle.places.proofs.Falling.{Below}
 use Rattle.synthesis.specs.declared.course.Course.{Course}
 use Rattle.synthesis.specs.Courses.{Ready, PlaceOf, Row, course, nodes_of, letters_of}

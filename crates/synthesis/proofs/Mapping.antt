@@ -1,5 +1,5 @@
 -- Outcomes that are changed one after the other, each from what it was.
-use Rattle.std.proofs.Common.{◌≡◌, ℕ, ◌+◌, ◌<◌, ◌≤◌, List, length, get_or, set, sym, refl, ◌∙◌, subst, inl, inr, arith, length-set, get_or-set_other, get_or-set_same}
+use Rattle.std.proofs.Common.{◌≡◌, ℕ, ◌+◌, ◌<◌, ◌≤◌, List, length, get_or, set, sym, ◌∙◌, subst, inl, inr, arith, length-set, get_or-set_other, get_or-set_same}
 use Rattle.std.proofs.lemmas.Bool.{cases_lt}
 use Rattle.letters.specs.Alphabets.{most_letters}
 use Rattle.places.specs.declared.outcome.Outcome.{Outcome}
@@ -12,9 +12,6 @@ pub record Mapped (R : ℕ → Outcome → Outcome → Type 0) (was out : List O
   pub long : length out ≡ most_letters
 
 module _ (R : ℕ → Outcome → Outcome → Type 0) (was : List Outcome) where
-  pub mapped_none : length was ≡ most_letters → Mapped R was was 0
-  mapped_none e = record { changed = λ k h. absurd (omega arith); left = λ k h. refl; long = e }
-
   pub mapped_more : (out : List Outcome) (i : ℕ) (y : Outcome) → i < most_letters → R i (get_or out i Dead) y → Mapped R was out i → Mapped R was (set out i y) (i + 1)
   mapped_more out i y h e m = record {
     changed = changed;

@@ -60,9 +60,6 @@ module _ (c : Course) where
       ∙ named_back (size (nodes_of c) root) ((loop_of c).next p letter) h.few
       (subst (λ o. Below (size (nodes_of c) root) o) e (course_stays (letters_of c) (nodes_of c) c.checked.grounds.sound root p letter h.within h.inside))
 
-  pub drawn_none : (p : ℕ) (cells : List ℕ) → length cells ≡ most_letters → Drawn (loop_of c) (letters_of c) p cells 0
-  drawn_none p cells e = record { long = e; each = λ k h. absurd (omega arith) }
-
   pub drawn_more : (p n : ℕ) (out : List Outcome) (cells : List ℕ) (j v : ℕ) → n ≡ root → PlaceOf c root p → Row c n p out → j < most_letters
       → v ≡ cell_of (get_or out j Dead) → Drawn (loop_of c) (letters_of c) p cells j → Drawn (loop_of c) (letters_of c) p (set cells j v) (j + 1)
   drawn_more p n out cells j v at h r i e d = record { long = length-set cells j v ∙ d.long; each = each }

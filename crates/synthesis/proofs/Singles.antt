@@ -4,9 +4,6 @@ use native.Mathlib.Nat.{zero-div, zero-mod}
 use lib.Bits.{bit_and}
 use Rattle.std.proofs.lemmas.Nat.{mul-le}
 use Rattle.std.proofs.lemmas.Bool.{cases_eq, eq-eqb, ne_eqb, lt-ltb, le-ltb}
-use Rattle.property.specs.Meant.{meant}
-use Rattle.property.specs.declared.node.Node as PN
-use Rattle.property.specs.declared.node.Node.TheVariants as PV
 use Rattle.property.specs.Nodes.{Node, Nothing, Choice, Sequence, Both, Lap, All, node, is_loop}
 use Rattle.property.specs.Sized.{cut}
 use Rattle.property.specs.Sizes.{in_family, size}
@@ -40,24 +37,6 @@ product_one x y e = elim (cases_eq x 0) [
         (omega arith, omega arith)
   ]
 ]
-
--- a program's node is a loop or is not
-pub loop_as : (file : List ℕ) (nodes : List Node) (n : ℕ) (x : PN.Node) → node nodes n ≡ meant file x
-    → ((a : ℕ) × (x ≡ PV.Lap a)) ⊎ ((a : ℕ) × (b : ℕ) × (x ≡ PV.All a b)) → is_loop (node nodes n) ≡ true
-loop_as file nodes n x e (inl q) = ap (λ y. is_loop y) (e ∙ ap (meant file) q.1)
-loop_as file nodes n x e (inr q) = ap (λ y. is_loop y) (e ∙ ap (meant file) q.2)
-
-is_plain : (file : List ℕ) (x : PN.Node) → ((a : ℕ) → x ≡ PV.Lap a → ⊥) → ((a b : ℕ) → x ≡ PV.All a b → ⊥) → is_loop (meant file x) ≡ false
-is_plain file PV.Nothing lap all = refl
-is_plain file (PV.Choice start count) lap all = refl
-is_plain file (PV.Sequence a b) lap all = refl
-is_plain file (PV.Both a b) lap all = refl
-is_plain file (PV.Lap a) lap all = absurd (lap a refl)
-is_plain file (PV.All a b) lap all = absurd (all a b refl)
-
-pub plain_as : (file : List ℕ) (nodes : List Node) (n : ℕ) (x : PN.Node) → node nodes n ≡ meant file x
-    → ((a : ℕ) → x ≡ PV.Lap a → ⊥) → ((a b : ℕ) → x ≡ PV.All a b → ⊥) → is_loop (node nodes n) ≡ false
-plain_as file nodes n x e lap all = ap (λ y. is_loop y) e ∙ is_plain file x lap all
 
 -- a start that is no place is kept as it is
 start_done : (k j : ℕ) (x s : Outcome) → Below 0 x → Like k x s → is_done s ≡ leads_on (shift j x)

@@ -16,7 +16,7 @@ use Rattle.places.proofs.Branches.{sound_as}
 use Rattle.places.proofs.Choices.{offset_next}
 use Rattle.places.proofs.Equations.{size_of_kind}
 use Rattle.places.proofs.Falling.{Below}
-use Rattle.synthesis.specs.Courses.{StartsKept, checked_nodes, course}
+use Rattle.synthesis.specs.Courses.{StartsBefore, checked_nodes, course}
 use Rattle.synthesis.specs.Outcomes.{Like, after_first, kept, lap_start}
 use Rattle.synthesis.specs.declared.course.CheckedFile.{CheckedFile}
 use Rattle.synthesis.proofs.Courses.{offset_same, members_agree, course_by, course_size, course_starts, course_nothing, course_sequence, course_both, course_all_start, course_lap_start, course_choice_start}
@@ -132,7 +132,7 @@ module _ (alphabet : List ℕ) (nodes : List Node) (sound : Sound alphabet nodes
       ∙ ap (λ x. enter_member (λ m. in_family nodes n m) (λ m. member_of (walk nodes m) (node nodes m)) n (member_of (walk nodes n) x)) e
 
 -- the start of a node, by its kind
-module _ (f : CheckedFile) (starts : List Outcome) (n : ℕ) (within : n < length (checked_nodes f)) (before_n : StartsKept (checked_nodes f) starts n) where
+module _ (f : CheckedFile) (starts : List Outcome) (n : ℕ) (within : n < length (checked_nodes f)) (before_n : StartsBefore (checked_nodes f) starts n) where
   abbrev StartsWith : Outcome → Type 0
   StartsWith r = Like (size (checked_nodes f) n) (course (checked_nodes f) n).start r
 
@@ -183,7 +183,7 @@ module _ (f : CheckedFile) (starts : List Outcome) (n : ℕ) (within : n < lengt
       (subst (λ x. Like (max 1 (size (checked_nodes f) a)) (lap_start (course (checked_nodes f) a).start) x) (sym v) (like_lap _ _ _ (before_n a s.0.0)))
 
 -- the start of one node more is in place
-pub starts_more : (nodes : List Node) (starts : List Outcome) (n : ℕ) (r : Outcome) → n < length starts → Like (size nodes n) (course nodes n).start r → StartsKept nodes starts n
+pub starts_more : (nodes : List Node) (starts : List Outcome) (n : ℕ) (r : Outcome) → n < length starts → Like (size nodes n) (course nodes n).start r → StartsBefore nodes starts n
     → (m : ℕ) → m < n + 1 → Like (size nodes m) (course nodes m).start (get_or (set starts n r) m Dead)
 starts_more nodes starts n r h l before_n m i = elim (cases_lt m n) [
   | inl k ↦ subst (λ o. Like (size nodes m) (course nodes m).start o) (sym (get_or-set_other starts n m r Dead (λ q. omega arith))) (before_n m k)

@@ -11,7 +11,7 @@ use Rattle.places.specs.declared.outcome.Outcome.{Outcome}
 use Rattle.places.specs.declared.outcome.Outcome.TheVariants.{Dead}
 use Rattle.synthesis.specs.declared.course.CheckedFile.{CheckedFile}
 use Rattle.synthesis.specs.declared.course.Course.{Course}
-pub use Rattle.synthesis.specs.Kept.{Grounds, OnesKept, StartsKept, bit, course, round}
+pub use Rattle.synthesis.specs.Kept.{Grounds, OnesBefore, OnesKept, StartsBefore, StartsKept, bit, course, round}
 
 abbrev pub checked_nodes : CheckedFile → List Node
 checked_nodes f = nodes_in f.file.now f.nodes.now
@@ -29,8 +29,8 @@ loop_of c = loop (nodes_of c) (last_node (nodes_of c))
 -- what each course has
 pub record Ready (c : Course) : Type 0 where
   pub grounded : Grounds c.checked.file.now c.checked.nodes.now (letters_of c)
-  pub starts : StartsKept (nodes_of c) c.starts (length (nodes_of c))
-  pub ones : OnesKept (nodes_of c) (letters_of c) c.ones (length (nodes_of c))
+  pub starts : StartsKept (nodes_of c) c.starts
+  pub ones : OnesKept (nodes_of c) (letters_of c) c.ones
 
 -- p is a place of a node whose size is kept as it is
 pub record PlaceOf (c : Course) (n p : ℕ) : Type 0 where

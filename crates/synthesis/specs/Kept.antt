@@ -28,15 +28,21 @@ pub record Grounds (file : List ℕ) (place : Nodes) (letters : List ℕ) : Type
   pub few_letters : length letters ≤ most_letters
 
 -- where the walks of the nodes before n start
-abbrev pub StartsKept : List Node → List Outcome → ℕ → Type 0
-StartsKept nodes starts n = (m : ℕ) → m < n → Like (size nodes m) (course nodes m).start (slice_index_or starts m Dead)
+abbrev pub StartsBefore : List Node → List Outcome → ℕ → Type 0
+StartsBefore nodes starts n = (m : ℕ) → m < n → Like (size nodes m) (course nodes m).start (slice_index_or starts m Dead)
+
+abbrev pub StartsKept : List Node → List Outcome → Type 0
+StartsKept nodes starts = StartsBefore nodes starts (length nodes)
 
 -- whether the bit j of w is set
 abbrev pub bit : ℕ → ℕ → Bool
 bit w j = w / 2 ^ j % 2 == 1
 
 -- which letters lead on from the only place of each node of size 1 before n
-abbrev pub OnesKept : List Node → List ℕ → List ℕ → ℕ → Type 0
-OnesKept nodes letters ones n =
+abbrev pub OnesBefore : List Node → List ℕ → List ℕ → ℕ → Type 0
+OnesBefore nodes letters ones n =
     (m : ℕ) → m < n → size nodes m ≡ 1
     → (j : ℕ) → j < length letters → bit (slice_index ones m) j ≡ leads_on ((course nodes m).step 0 (slice_index letters j))
+
+abbrev pub OnesKept : List Node → List ℕ → List ℕ → Type 0
+OnesKept nodes letters ones = OnesBefore nodes letters ones (length nodes)

@@ -99,8 +99,8 @@ like_prop k Dead r = outcome_set _ _
 like_prop k Done r = outcome_set _ _
 like_prop k (At p) r = at_prop k p r
 
-pub StartsKept-prop : (nodes : List Node) (starts : List Outcome) (n : ℕ) → IsProp (StartsKept nodes starts n)
-StartsKept-prop nodes starts n = Π_prop (λ m. Π_prop (λ h. like_prop _ _ _))
+pub StartsKept-prop : (nodes : List Node) (starts : List Outcome) → IsProp (StartsKept nodes starts)
+StartsKept-prop nodes starts = Π_prop (λ m. Π_prop (λ h. like_prop _ _ _))
 
-pub OnesKept-prop : (nodes : List Node) (letters ones : List ℕ) (n : ℕ) → IsProp (OnesKept nodes letters ones n)
-OnesKept-prop nodes letters ones n = Π_prop (λ m. Π_prop (λ h. Π_prop (λ one. Π_prop (λ j. Π_prop (λ l. Bool-set _ _)))))
+pub OnesKept-prop : (nodes : List Node) (letters ones : List ℕ) → IsProp (OnesKept nodes letters ones)
+OnesKept-prop nodes letters ones = Π_prop (λ m. Π_prop (λ h. Π_prop (λ one. Π_prop (λ j. Π_prop (λ l. Bool-set _ _)))))

@@ -1,4 +1,3 @@
-ghost use Rattle.std.specs.Prelude.{length};
 ghost use Rattle.property.specs.Placed.{nodes_in};
 ghost use Rattle.synthesis.specs.Kept.{Grounds, OnesKept, StartsKept};
 ghost use Rattle.synthesis.specs.Unique.{Grounds-prop, OnesKept-prop, StartsKept-prop};
@@ -31,6 +30,6 @@ pub(crate) struct Course<'a> {
     pub(crate) checked: CheckedFile<'a>,
     pub(crate) starts: [Outcome; MOST_NODES],
     pub(crate) ones: [u32; MOST_NODES],
-    ghost starts_kept: { StartsKept (nodes_in checked.file.now checked.nodes.now) starts (length (nodes_in checked.file.now checked.nodes.now)) } by { StartsKept-prop (nodes_in checked.file.now checked.nodes.now) starts (length (nodes_in checked.file.now checked.nodes.now)) },
-    ghost ones_kept: { OnesKept (nodes_in checked.file.now checked.nodes.now) checked.letters.now ones (length (nodes_in checked.file.now checked.nodes.now)) } by { OnesKept-prop (nodes_in checked.file.now checked.nodes.now) checked.letters.now ones (length (nodes_in checked.file.now checked.nodes.now)) },
+    ghost starts_kept: { StartsKept (nodes_in checked.file.now checked.nodes.now) starts } by { StartsKept-prop (nodes_in checked.file.now checked.nodes.now) starts },
+    ghost ones_kept: { OnesKept (nodes_in checked.file.now checked.nodes.now) checked.letters.now ones } by { OnesKept-prop (nodes_in checked.file.now checked.nodes.now) checked.letters.now ones },
 }

@@ -4,7 +4,7 @@ ghost use Rattle.property.specs.Nodes.{branches};
 ghost use Rattle.property.specs.Sizes.{size};
 ghost use Rattle.places.specs.Walks.{target};
 ghost use Rattle.places.specs.declared.outcome.Outcome.TheVariants.{Dead};
-ghost use Rattle.synthesis.specs.Courses.{OnesKept, Row, StartsKept, bit, checked_nodes, course, nodes_of};
+ghost use Rattle.synthesis.specs.Courses.{OnesBefore, OnesKept, Row, StartsKept, bit, checked_nodes, course, nodes_of};
 ghost use Rattle.synthesis.specs.Outcomes.{leads_on};
 ghost use Rattle.synthesis.specs.Singles.{is_at, is_done, ends_at};
 
@@ -93,8 +93,8 @@ impl CheckedFile<'_> {
     /// The letters that lead on from the only place of a node, if it has only one.
     fn ones_of(&self, starts: &[Outcome; MOST_NODES], ones: &[u32; MOST_NODES], n: usize) -> u32
         requires within { n < length (checked_nodes self.now) }
-        requires starts { StartsKept (checked_nodes self.now) starts.now (length (checked_nodes self.now)) }
-        requires kept { OnesKept (checked_nodes self.now) self.now.letters.now ones.now n }
+        requires starts { StartsKept (checked_nodes self.now) starts.now }
+        requires kept { OnesBefore (checked_nodes self.now) self.now.letters.now ones.now n }
         ensures { size (checked_nodes self.now) n ≡ 1 → (j : ℕ) → j < length self.now.letters.now → bit result j ≡ leads_on ((course (checked_nodes self.now) n).step 0 (slice_index self.now.letters.now j)) }
     {
         match self.node(n) {
@@ -110,8 +110,8 @@ impl CheckedFile<'_> {
 
     /// Which letters lead on from the only place of each node of size 1, from where the walks start.
     pub(crate) fn ones(&self, starts: &[Outcome; MOST_NODES]) -> [u32; MOST_NODES]
-        requires { StartsKept (checked_nodes self.now) starts.now (length (checked_nodes self.now)) }
-        ensures { OnesKept (checked_nodes self.now) self.now.letters.now result (length (checked_nodes self.now)) }
+        requires { StartsKept (checked_nodes self.now) starts.now }
+        ensures { OnesKept (checked_nodes self.now) self.now.letters.now result }
     {
         let mut ones = [0; MOST_NODES];
         // By index, since a node's letters are read from those of the earlier ones in the array that they are written to.

@@ -1,6 +1,6 @@
 ghost use Rattle.std.specs.Prelude.{◌≡◌, ◌<◌, length};
 ghost use Rattle.property.specs.Sizes.{size};
-ghost use Rattle.synthesis.specs.Courses.{Grounds, Ready, StartsKept, checked_nodes, course};
+ghost use Rattle.synthesis.specs.Courses.{Grounds, Ready, StartsBefore, StartsKept, checked_nodes, course};
 ghost use Rattle.synthesis.specs.Outcomes.{Like, lap_start};
 
 use crate::course::outcomes::{after_first, met};
@@ -24,7 +24,7 @@ impl CheckedFile<'_> {
     /// Where the walk of a node starts, from the starts of the earlier ones.
     fn start_of(&self, starts: &[Outcome; MOST_NODES], n: usize) -> Outcome
         requires within { n < length (checked_nodes self.now) }
-        requires kept { StartsKept (checked_nodes self.now) starts.now n }
+        requires kept { StartsBefore (checked_nodes self.now) starts.now n }
         ensures { Like (size (checked_nodes self.now) n) (course (checked_nodes self.now) n).start result }
     {
         match self.node(n) {
@@ -38,7 +38,7 @@ impl CheckedFile<'_> {
 
     /// Where the walk of each node starts.
     fn starts(&self) -> [Outcome; MOST_NODES]
-        ensures { StartsKept (checked_nodes self.now) result (length (checked_nodes self.now)) }
+        ensures { StartsKept (checked_nodes self.now) result }
     {
         let mut starts = [Outcome::Dead; MOST_NODES];
         // By index, since a start is read from the earlier ones of the array that it is written to.

@@ -2,15 +2,9 @@ use Rattle.std.proofs.Common.{ℕ, ◌+◌, Bool, get_or, ◌∙◌, sym, subst,
 use Rattle.property.specs.Nodes.{branches}
 use Rattle.places.specs.Walks.{target}
 use Rattle.synthesis.specs.Singles.{ends_at}
-use Rattle.synthesis.proofs.Bitwise.{Told, told_none, told_set, told_skip}
+use Rattle.synthesis.proofs.Bitwise.{Told, told_set, told_skip}
 use Rattle.synthesis.proofs.course.CheckedFile.ending_letters.Goals as goal
 use Rattle.synthesis.proofs.course.CheckedFile.ending_letters.Goals.{then-is_ending, else-is_ending}
-
-pub is_ending-requires : goal.is_ending-requires
-is_ending-requires c = λ m e. c.requires _ m e
-
-pub loop-j-init : goal.loop-j-init
-loop-j-init c = told_none _
 
 pub loop-j-preserved : goal.loop-j-preserved
 loop-j-preserved c =

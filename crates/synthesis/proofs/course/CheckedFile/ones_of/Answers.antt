@@ -14,9 +14,6 @@ ending_letters-requires c l m e =
     let h = choice_below c.args.self.now.letters.now (checked_nodes c.args.self.now) c.args.self.now.grounds.sound c.args.n l m _ is (ap (λ (body : List ℕ). target (branches body) l) (sym c.branches_at.ensures) ∙ e) in
     omega (arith, few_nodes c.args.self.now.file.now c.args.self.now.nodes.now, c.requires.within, h)
 
-pub size_at-requires : goal.size_at-requires
-size_at-requires c = let h = sequence_names _ _ _ c.args.self.now.grounds _ _ c.node.ensures _ _ c.in-Sequence.is in omega (arith, c.requires.within)
-
 pub returns-in-Nothing : goal.returns-in-Nothing
 returns-in-Nothing c one j h = absurd (nothing_none c.args.self.now.letters.now (checked_nodes c.args.self.now) c.args.self.now.grounds.sound c.args.n (node_as c.args.self.now.file.now c.args.self.now.nodes.now _ _ _ c.node.ensures c.in-Nothing.is) one)
 

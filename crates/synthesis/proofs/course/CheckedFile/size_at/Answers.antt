@@ -1,9 +1,6 @@
 use Rattle.std.proofs.Common.{arith}
-use Rattle.synthesis.proofs.Grounding.{few_nodes, size_count, size_read}
+use Rattle.synthesis.proofs.Grounding.{size_count, size_read}
 use Rattle.synthesis.proofs.course.CheckedFile.size_at.Goals as goal
-
-pub offset_bounds-sizes-n : goal.offset_bounds-sizes-n
-offset_bounds-sizes-n c = omega (arith, few_nodes c.args.self.now.file.now c.args.self.now.nodes.now, c.requires)
 
 pub bounds-sizes-n : goal.bounds-sizes-n
 bounds-sizes-n c = omega (arith, size_count _ _ _ c.args.self.now.grounds _ c.sizes.ensures, c.requires)

@@ -1,6 +1,6 @@
 use Rattle.std.proofs.Common.{◌∙◌, arith, rules}
 use Rattle.synthesis.proofs.Lines.{sequence_parts, product_parts, lap_part, sequence_second, sequence_first, row_second, row_first, row_choice, product_positive, product_first, product_second, row_product, lap_place, row_lap}
-use Rattle.synthesis.proofs.Grounding.{few_nodes, node_as, product_as}
+use Rattle.synthesis.proofs.Grounding.{node_as, product_as}
 use Rattle.synthesis.proofs.Starting.{size_nothing}
 use Rattle.synthesis.proofs.course.Course.+row.Goals as goal
 
@@ -9,21 +9,9 @@ returns-in-Nothing t c j i =
     let e = node_as c.args.self.now.checked.file.now c.args.self.now.checked.nodes.now _ _ _ c.node.ensures c.in-Nothing.is in
     absurd (omega (arith, size_nothing _ _ c.args.self.now.checked.grounds.sound _ e, c.requires.inside))
 
-pub row_of_choice-requires : goal.row_of_choice-requires
-row_of_choice-requires t c = record {
-  place = c.requires;
-  choice = (_, node_as c.args.self.now.checked.file.now c.args.self.now.checked.nodes.now _ _ _ c.node.ensures c.in-Choice.is);
-}
-
 pub returns-in-Some : goal.returns-in-Some
 returns-in-Some t c =
     row_choice c.args.self.now _ _ _ _ _ _ c.requires c.in-Some.ensures c.row.ensures (omega arith) (λ j h. search (rules, c.change_all.ensures j h))
-
-pub size_at-size-requires : goal.size_at-size-requires
-size_at-size-requires t c =
-    let e = node_as c.args.self.now.checked.file.now c.args.self.now.checked.nodes.now _ _ _ c.node.ensures c.in-Sequence.is in
-    let s = sequence_parts c.args.self.now _ _ _ e in
-    omega (arith, s.second, c.requires.within)
 
 pub row-requires-then-place-size : goal.row-requires-then-place-size
 row-requires-then-place-size t c =
@@ -42,27 +30,11 @@ row-requires-in-Sequence t c =
     let s = sequence_parts c.args.self.now _ _ _ e in
     (omega (arith, s.first, c.decreases), (sequence_first c.args.self.now _ _ _ _ _ c.requires e c.size_at-size.ensures c.if-place-size.false))
 
-pub offset_bounds-self-b : goal.offset_bounds-self-b
-offset_bounds-self-b t c =
-    let e = node_as c.args.self.now.checked.file.now c.args.self.now.checked.nodes.now _ _ _ c.node.ensures c.in-Sequence.is in
-    omega (arith, few_nodes c.args.self.now.checked.file.now c.args.self.now.checked.nodes.now, (sequence_parts c.args.self.now _ _ _ e).second, c.requires.within)
-
-pub bounds-self-b : goal.bounds-self-b
-bounds-self-b t c =
-    let e = node_as c.args.self.now.checked.file.now c.args.self.now.checked.nodes.now _ _ _ c.node.ensures c.in-Sequence.is in
-    omega (arith, few_nodes c.args.self.now.checked.file.now c.args.self.now.checked.nodes.now, (sequence_parts c.args.self.now _ _ _ e).second, c.requires.within)
-
 pub returns-else-place-size : goal.returns-else-place-size
 returns-else-place-size t c =
     let e = node_as c.args.self.now.checked.file.now c.args.self.now.checked.nodes.now _ _ _ c.node.ensures c.in-Sequence.is in
     row_first c.args.self.now _ _ _ _ _ c.requires e c.size_at-size.ensures _ _ c.if-place-size.false c.row-in-Sequence.ensures
     (omega arith) (λ k j h. search (rules, c.change_all-in-Sequence.ensures j h))
-
-pub size_at-size-requires-in-Both : goal.size_at-size-requires-in-Both
-size_at-size-requires-in-Both t c =
-    let e = product_as c.args.self.now.checked.file.now c.args.self.now.checked.nodes.now _ _ _ _ c.node.ensures c.in-Both.is in
-    let s = product_parts c.args.self.now _ _ _ e in
-    omega (arith, s.second, c.requires.within)
 
 pub nonzero_div-place : goal.nonzero_div-place
 nonzero_div-place t c =
@@ -97,16 +69,6 @@ row-requires-in-Lap t c =
     let e = node_as c.args.self.now.checked.file.now c.args.self.now.checked.nodes.now _ _ _ c.node.ensures c.in-Lap.is in
     let s = lap_part c.args.self.now _ _ e in
     (omega (arith, s.first, c.decreases), (lap_place c.args.self.now _ _ _ c.requires e (λ q. c.if-size_at-eq1.false (c.size_at.ensures ∙ q))))
-
-pub offset_bounds-self-a : goal.offset_bounds-self-a
-offset_bounds-self-a t c =
-    let e = node_as c.args.self.now.checked.file.now c.args.self.now.checked.nodes.now _ _ _ c.node.ensures c.in-Lap.is in
-    omega (arith, few_nodes c.args.self.now.checked.file.now c.args.self.now.checked.nodes.now, (lap_part c.args.self.now _ _ e).first, c.requires.within)
-
-pub bounds-self-a : goal.bounds-self-a
-bounds-self-a t c =
-    let e = node_as c.args.self.now.checked.file.now c.args.self.now.checked.nodes.now _ _ _ c.node.ensures c.in-Lap.is in
-    omega (arith, few_nodes c.args.self.now.checked.file.now c.args.self.now.checked.nodes.now, (lap_part c.args.self.now _ _ e).first, c.requires.within)
 
 pub returns-in-Lap : goal.returns-in-Lap
 returns-in-Lap t c =

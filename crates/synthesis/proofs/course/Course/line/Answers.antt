@@ -1,13 +1,10 @@
 use Rattle.std.proofs.Common.{sym, subst, arith}
 use Rattle.synthesis.specs.Courses.{PlaceOf}
-use Rattle.synthesis.proofs.Roots.{root_place, drawn_none, drawn_more}
+use Rattle.synthesis.proofs.Roots.{root_place, drawn_more}
 use Rattle.synthesis.proofs.course.Course.line.Goals as goal
 
 pub row-requires : goal.row-requires
 row-requires c = subst (λ n. PlaceOf c.args.self.now n c.args.place) (sym c.root.ensures) (root_place c.args.self.now _ c.requires.few c.requires.inside)
-
-pub loop-j-init : goal.loop-j-init
-loop-j-init c = drawn_none c.args.self.now _ _ c.told-cells
 
 pub loop-j-preserved : goal.loop-j-preserved
 loop-j-preserved c =

@@ -2,25 +2,16 @@ use Rattle.std.proofs.Common.{get_or, ◌∙◌, arith, length-set}
 use Rattle.places.specs.declared.outcome.Outcome.TheVariants.{Dead}
 use Rattle.property.specs.Nodes.{branches}
 use Rattle.synthesis.specs.Courses.{course, letters_of, nodes_of}
-use Rattle.synthesis.proofs.Belonging.{choice_at, set_more, small_choice, stands, whole_of_other}
+use Rattle.synthesis.proofs.Belonging.{choice_at, set_more, stands, whole_of_other}
 use Rattle.synthesis.proofs.course.Course.row_of_choice.Goals as goal
-
-pub member_at-m-requires : goal.member_at-m-requires
-member_at-m-requires c = record { small = small_choice _ _ _ c.requires.place c.requires.choice; inside = c.requires.place.inside }
 
 pub node-requires : goal.node-requires
 node-requires c = (stands _ _ _ c.requires.place c.requires.choice _ _ c.member_at-m.ensures).within
-
-pub offsets-offsets-requires : goal.offsets-offsets-requires
-offsets-offsets-requires c = small_choice _ _ _ c.requires.place c.requires.choice
 
 pub entered_by-requires : goal.entered_by-requires
 entered_by-requires c =
     let s = stands _ _ _ c.requires.place c.requires.choice _ _ c.member_at-m.ensures in
     s.names (branches c.branches_at-body.result.now) (choice_at c.args.self.now c.member_at-m.result.0 _ c.node.ensures _ _ c.branches_at-body.result.now c.in-Choice.is c.branches_at-body.ensures) (get_or (letters_of c.args.self.now) c.loop-j.j 0)
-
-pub loop-j-init : goal.loop-j-init
-loop-j-init c = (λ i h. absurd (omega arith), c.told-out)
 
 pub loop-j-preserved : goal.loop-j-preserved
 loop-j-preserved c =

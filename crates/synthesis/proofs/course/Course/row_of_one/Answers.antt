@@ -1,21 +1,11 @@
-use Rattle.std.proofs.Common.{◌<◌, Bool, cond, ◌≢◌, length, get_or, sym, ap, ◌∙◌, arith, below_more}
+use Rattle.std.proofs.Common.{◌<◌, cond, ◌≢◌, length, get_or, ap, ◌∙◌, arith, below_more}
 use Rattle.std.proofs.lemmas.List.{length-set, get_or-set_same, get_or-set_other}
 use Rattle.property.specs.Nodes.{node, is_loop}
 use Rattle.places.specs.declared.outcome.Outcome.TheVariants.{Dead, Done, At}
 use Rattle.synthesis.specs.Courses.{letters_of, nodes_of}
-use Rattle.synthesis.proofs.Singles.{loop_as, plain_as, one_row}
+use Rattle.synthesis.proofs.Singles.{one_row}
 use Rattle.synthesis.proofs.course.Course.row_of_one.Goals as goal
 use Rattle.synthesis.proofs.course.Course.row_of_one.Goals.{in-Lap, in_default}
-
-pub loop-j-init : goal.loop-j-init
-loop-j-init c = (
-  elim c.match-node.branch [
-    | in-Lap w ↦ w.on-is ∙ sym (ap (λ (t : Bool). cond t (At 0) Done) (loop_as c.args.self.now.checked.file.now (nodes_of c.args.self.now) c.args.n _ c.node.ensures w.in-Lap.is))
-    | in_default w ↦ w.on-is ∙ sym (ap (λ (t : Bool). cond t (At 0) Done) (plain_as c.args.self.now.checked.file.now (nodes_of c.args.self.now) c.args.n _ c.node.ensures w.in_default.not-Lap w.in_default.not-All))
-  ],
-  λ k h. absurd (omega arith),
-  c.told-out,
-)
 
 pub loop-j-preserved : goal.loop-j-preserved
 loop-j-preserved c =

@@ -1,12 +1,9 @@
-use Rattle.std.proofs.Common.{sym, ap, ◌∙◌, arith}
+use Rattle.std.proofs.Common.{sym, ap, ◌∙◌}
 use Rattle.property.specs.Sized.{cut}
 use Rattle.property.specs.Sizes.{size}
 use Rattle.synthesis.specs.Courses.{nodes_of}
-use Rattle.synthesis.proofs.Roots.{root_within, root_size}
+use Rattle.synthesis.proofs.Roots.{root_size}
 use Rattle.synthesis.proofs.course.Course.size.Goals as goal
-
-pub size_at-requires : goal.size_at-requires
-size_at-requires c = omega (arith, root_within c.args.self.now, c.root.ensures)
 
 pub returns : goal.returns
 returns c =

@@ -58,7 +58,7 @@ impl Row<'_> {
         ensures { result ≡ lowers (loop_of self.now.course.now) self.now.weighed.now self.now.place (slice_index (letters_of self.now.course.now) j) }
     {
         let owed = self.weighed.owed;
-        may_insert(self.course.checked.letters[j])
+        may_insert(self.course.letters()[j])
             && matches!(self.onward(j), Some(next) if owed[next as usize] + 1 == owed[self.place as usize])
     }
 
@@ -67,8 +67,8 @@ impl Row<'_> {
         requires { AllWeighed (loop_of self.now.course.now) self.now.weighed.now }
         ensures { Lead (loop_of self.now.course.now) self.now.place (unwrap_or result no_row) }
     {
-        let j = (0..self.course.checked.letters.len()).find(|j| self.lowers(*j))?;
-        Some(self.course.checked.letters[j])
+        let j = (0..self.course.letters().len()).find(|j| self.lowers(*j))?;
+        Some(self.course.letters()[j])
     }
 
     /// Writes the row: a cell for each letter, then owed, span and lead.
@@ -77,7 +77,7 @@ impl Row<'_> {
         requires wide { length row.old ≡ width (letters_of self.now.course.now) }
         ensures { (j : ℕ) → j < width (letters_of self.now.course.now) → Entry (loop_of self.now.course.now) (letters_of self.now.course.now) self.now.weighed.now.rows.now self.now.place j (slice_index row.new j) }
     {
-        let letters = self.course.checked.letters.len();
+        let letters = self.course.letters().len();
         for j in 0..letters {
             row[j] = cell_of(self.next(j));
         }

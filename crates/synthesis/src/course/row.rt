@@ -7,6 +7,7 @@ ghost use Rattle.synthesis.specs.Drawn.{Line, cell_of};
 use crate::course::Course;
 use crate::course::outcomes::{after_first, change_all, lapped, meet_all, shifted};
 use letters::alphabet::MOST_LETTERS;
+use letters::letter::Letter;
 use places::outcome::Outcome;
 use property::node::Node;
 use rules::table::NO_ROW;
@@ -60,6 +61,13 @@ impl Course<'_> {
                 change_all(out, |outcome| lapped(start, outcome));
             }
         }
+    }
+
+    /// The letters of the alphabet.
+    pub(crate) fn letters(&self) -> &[Letter]
+        ensures { result.now ≡ letters_of self.now }
+    {
+        self.checked.letters
     }
 
     /// The number of the property's node.

@@ -1,4 +1,4 @@
-ghost use Rattle.std.specs.Prelude.{◌≡◌, ◌-◌, ◌<◌, ◌≤◌, length, slice_index};
+ghost use Rattle.std.specs.Prelude.{◌≡◌, ◌-◌, ◌≤◌, length, slice_index};
 ghost use Rattle.letters.specs.Alphabets.{most_letters};
 ghost use Rattle.property.specs.Placed.{sizes_in};
 ghost use Rattle.synthesis.specs.Fitting.{Read, fitting};
@@ -18,11 +18,9 @@ const WORK_A_PLACE: usize = 4;
 
 /// The size of the property, as it is kept.
 fn property_size(place: &Nodes) -> usize
-    requires { 0 < length (sizes_in place.now) }
     ensures { result ≡ slice_index (sizes_in place.now) (length (sizes_in place.now) - 1) }
 {
-    let sizes = place.sizes();
-    sizes[sizes.len() - 1] as usize
+    usize::from(place.sizes().last().copied().unwrap_or(0))
 }
 
 /// Whether the property is small enough, and the memories are long enough.

@@ -2,13 +2,10 @@ use Rattle.std.proofs.Common.{length, Some, None, refl, ap, ◌∙◌}
 use Rattle.std.proofs.lemmas.Result.{err_from_is_err_and}
 use Rattle.synthesis.specs.Synthesis.{Fits, lent}
 use Rattle.synthesis.proofs.Answered.{exits}
-use Rattle.synthesis.proofs.Fitted.{grounds, some_size, fits_in, refuses}
+use Rattle.synthesis.proofs.Fitted.{grounds, fits_in, refuses}
 use Rattle.synthesis.proofs.Made.{course_fillable, course_lettered, course_room, course_work, course_made, table_of, stranded, unstranded}
 use Rattle.synthesis.proofs.synthesize.fill_table.Goals as goal
 use Rattle.synthesis.proofs.synthesize.fill_table.Goals.{In_ok-fits}
-
-pub property_size-requires : goal.property_size-requires
-property_size-requires c = some_size c.args.file.now c.args.place.now c.args.alphabet.now c.requires
 
 pub returns-in_err-fits : goal.returns-in_err-fits
 returns-in_err-fits c =

@@ -4,7 +4,8 @@ use Rattle.synthesis.specs.Courses.{letters_of, loop_of}
 use Rattle.synthesis.specs.Table.{RowsWritten}
 use Rattle.synthesis.proofs.Marking.{all_filled, marked_within}
 use Rattle.synthesis.proofs.Telling.{tells}
-use Rattle.synthesis.proofs.Writing.{length_part, rows_kept, rows_more, rest_filled}
+use Rattle.synthesis.proofs.Parts.{length_part}
+use Rattle.synthesis.proofs.Writing.{rows_kept, rows_more, rest_filled}
 use Rattle.synthesis.proofs.write.write.Goals as goal
 
 pub row_of-requires-clause-inside : goal.row_of-requires-clause-inside

@@ -76,8 +76,8 @@ pub(crate) fn columns_of(letters: &[Letter]) -> [Option<u8>; LETTER_BOUND]
     ensures { Columned letters.now result (length letters.now) }
 {
     let mut columns = [None; LETTER_BOUND];
-    for j in 0..letters.len() {
-        columns[letters[j] as usize] = Some(j as u8);
+    for (j, &letter) in letters.iter().enumerate() {
+        columns[letter as usize] = Some(j as u8);
     }
     columns
 }

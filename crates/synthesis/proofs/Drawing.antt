@@ -43,19 +43,6 @@ columned_more letters columns j asc h small a =
       ];
     }
 
--- the first j cells of a line stand in the memory from start on
-pub record Put (line old memory : List ℕ) (start j : ℕ) : Type 0 where
-  pub put : (i : ℕ) → i < j → get_or memory (start + i) no_row ≡ get_or line i no_row
-  pub kept : (k : ℕ) → k < start → get_or memory k no_row ≡ get_or old k no_row
-
-pub put_more : (line old memory : List ℕ) (start j v : ℕ) → start + j < length memory → v ≡ get_or line j no_row → Put line old memory start j → Put line old (set memory (start + j) v) start (j + 1)
-put_more line old memory start j v h e a = record {
-  put = below_more _ _
-      (λ i k. let d : start + i ≢ start + j = λ z. omega arith in get_or-set_other memory (start + j) (start + i) v no_row d ∙ a.put i k)
-      (get_or-set_same memory (start + j) v no_row h ∙ e);
-  kept = λ k m. let d : k ≢ start + j = λ z. omega arith in get_or-set_other memory (start + j) k v no_row d ∙ a.kept k m;
-}
-
 -- what the cell j of a line names is what the letter j leads to
 pub line_next : (r : Loop) (letters line : List ℕ) (p j : ℕ) (o : Option ℕ) → Line r letters p line → j < length letters → j < length line → o ≡ row_named (get_or line j 0) → o ≡ r.next p (get_or letters j 0)
 line_next r letters line p j o a h k e = e ∙ ap row_named (get_or_default line j 0 no_row k) ∙ a j h

@@ -87,9 +87,6 @@ module _ (file : List ℕ) (place : Nodes) (alphabet : Alphabet) (rd : Read file
   grounds letters e =
       subst (λ ls. Grounds file place ls) (sym e) (record { sound = sound_in; sizes = sizes_are; few_letters = few alphabet })
 
-  pub some_size : 0 < length (sizes_in place)
-  some_size = omega (arith, ap length rd.holds.sizes, length_sizes rd.parts.nodes, rd.holds.sound.some)
-
   -- the size of the property, as it is kept
   kept_size : get_or (sizes_in place) (length (sizes_in place) - 1) 0 ≡ cut (property_size rd.parts)
   kept_size =

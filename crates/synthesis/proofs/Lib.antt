@@ -16,6 +16,7 @@ pub mod Mapping
 pub mod Marking
 pub mod Numbering
 pub mod Owning
+pub mod Parts
 pub mod Paths
 pub mod Roots
 pub mod Ruling

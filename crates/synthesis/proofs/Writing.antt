@@ -1,27 +1,13 @@
 -- Writing the rows of a table, each into its part of the memory.
-use Rattle.std.proofs.Common.{◌≡◌, ℕ, ◌+◌, ◌-◌, ◌*◌, ◌<◌, ◌≤◌, ◌≢◌, List, ◌++◌, length, get_or, set, take, drop, sym, ap, ◌∙◌, subst, arith, length-append, length-drop, length-set, get_or-set_other, get_or-set_same, below_more}
-use Rattle.std.proofs.lemmas.List.{get_or_append_left, get_or-append_right, get_or-take, length-take-le}
+use Rattle.std.proofs.Common.{◌≡◌, ℕ, ◌+◌, ◌-◌, ◌*◌, ◌<◌, ◌≤◌, ◌≢◌, List, length, get_or, set, sym, ap, ◌∙◌, subst, arith, length-set, get_or-set_other, get_or-set_same, below_more}
 use Rattle.std.proofs.lemmas.Nat.{mul-add-lt}
-use borrow.Rule.Slice.PartMut.{put_mid, post_of}
+use borrow.Rule.Slice.PartMut.{put_mid}
 use Rattle.rules.specs.Tabled.{no_row, width}
 use Rattle.places.specs.Loops.{Loop}
 use Rattle.places.specs.Owing.{LoopOwed, LoopSpan}
 use Rattle.synthesis.specs.Table.{AllAre, Cell, Entry, RowsWritten}
 use Rattle.synthesis.specs.Weights.{Lead}
-
--- an element before the part of a list that was written, and one in it
-before_part : (xs ys : List ℕ) (a k i : ℕ) → i < a → a ≤ length xs → get_or (put_mid a k xs ys) i 0 ≡ get_or xs i 0
-before_part xs ys a k i h l = get_or_append_left (take a xs) (ys ++ post_of a k xs) 0 i (omega (arith, length-take-le a xs l)) ∙ get_or-take a xs i 0 h
-
-in_part : (xs ys : List ℕ) (a k j : ℕ) → j < length ys → a ≤ length xs → get_or (put_mid a k xs ys) (a + j) 0 ≡ get_or ys j 0
-in_part xs ys a k j h l =
-    let z : a + j - a ≡ j = omega arith in
-    get_or-append_right (take a xs) (ys ++ post_of a k xs) a (a + j) 0 (length-take-le a xs l) (omega arith)
-    ∙ ap (λ (n : ℕ). get_or (ys ++ post_of a k xs) n 0) z
-    ∙ get_or_append_left ys (post_of a k xs) 0 j h
-
-pub length_part : (xs ys : List ℕ) (a k : ℕ) → a + k ≤ length xs → length ys ≡ k → length (put_mid a k xs ys) ≡ length xs
-length_part xs ys a k h e = omega (arith, length-append (take a xs) (ys ++ post_of a k xs), length-append ys (post_of a k xs), length-take-le a xs (omega arith), length-drop k (drop a xs), length-drop a xs)
+use Rattle.synthesis.proofs.Parts.{before_part, in_part}
 
 module _ (r : Loop) (letters rows : List ℕ) where
   -- the last columns after the cells of a row
@@ -55,14 +41,14 @@ module _ (r : Loop) (letters rows : List ℕ) where
     pub rows_kept : (after : List ℕ) (k : ℕ) → RowsWritten r letters rows order (put_mid (n * width letters) k table after) n
     rows_kept after k i h j g =
         let w = width letters in
-        subst (λ v. Entry r letters rows (get_or order i 0) j v) (sym (before_part table after (n * w) k (i * w + j) (omega (arith, mul-add-lt i w j n h g)) within)) (written i h j g)
+        subst (λ v. Entry r letters rows (get_or order i 0) j v) (sym (before_part table after (n * w) k (i * w + j) 0 (omega (arith, mul-add-lt i w j n h g)) within)) (written i h j g)
 
     -- one row more
     pub rows_more : (row : List ℕ) (k : ℕ) → length row ≡ width letters → ((j : ℕ) → j < width letters → Entry r letters rows (get_or order n 0) j (get_or row j 0))
         → RowsWritten r letters rows order (put_mid (n * width letters) k table row) (n + 1)
     rows_more row k long here =
         let w = width letters in
-        below_more _ _ (rows_kept row k) (λ j g. subst (λ v. Entry r letters rows (get_or order n 0) j v) (sym (in_part table row (n * w) k j (omega arith) within)) (here j g))
+        below_more _ _ (rows_kept row k) (λ j g. subst (λ v. Entry r letters rows (get_or order n 0) j v) (sym (in_part table row (n * w) k j 0 (omega arith) within)) (here j g))
 
     -- and nothing else
     pub rest_filled : (rest : List ℕ) (k : ℕ) → length rest + n * width letters ≡ length table → AllAre no_row rest
@@ -71,4 +57,4 @@ module _ (r : Loop) (letters rows : List ℕ) where
         let a = n * width letters in
         let z : a + (i - a) ≡ i = omega arith in
         let inside : i - a < length rest = omega arith in
-        ap (λ (m : ℕ). get_or (put_mid a k table rest) m 0) (sym z) ∙ in_part table rest a k (i - a) inside within ∙ all (i - a) inside
+        ap (λ (m : ℕ). get_or (put_mid a k table rest) m 0) (sym z) ∙ in_part table rest a k (i - a) 0 inside within ∙ all (i - a) inside

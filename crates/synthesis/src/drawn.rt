@@ -1,4 +1,4 @@
-ghost use Rattle.std.specs.Prelude.{◌≡◌, ℕ, ◌+◌, ◌*◌, ◌<◌, ◌≤◌, true, length, slice_index_or, unwrap_or};
+ghost use Rattle.std.specs.Prelude.{◌≡◌, ◌*◌, ◌≤◌, true, length, unwrap_or};
 ghost use Rattle.letters.specs.Alphabets.{ascending_from, most_letters};
 ghost use Rattle.property.specs.Sized.{most_size};
 ghost use Rattle.rules.specs.Tabled.{no_row, row_named, width};
@@ -76,22 +76,10 @@ pub(crate) fn columns_of(letters: &[Letter]) -> [Option<u8>; LETTER_BOUND]
     ensures { Columned letters.now result (length letters.now) }
 {
     let mut columns = [None; LETTER_BOUND];
-    for j in 0..letters.len() {
-        columns[letters[j] as usize] = Some(j as u8);
+    for (j, &letter) in letters.iter().enumerate() {
+        columns[letter as usize] = Some(j as u8);
     }
     columns
-}
-
-/// Writes the first cells of a line into the memory, from an index on.
-fn put(line: &[u16; MOST_LETTERS], count: usize, start: usize, memory: &mut [u16])
-    requires few { count ≤ most_letters }
-    requires room { start + count ≤ length memory.old }
-    ensures put { (j : ℕ) → j < count → slice_index_or memory.new (start + j) no_row ≡ slice_index_or line.now j no_row }
-    ensures kept { (k : ℕ) → k < start → slice_index_or memory.new k no_row ≡ slice_index_or memory.old k no_row }
-{
-    for j in 0..count {
-        memory[start + j] = line[j];
-    }
 }
 
 /// Draws the places of the property's loop.
@@ -101,15 +89,11 @@ pub(crate) fn draw(course: &Course, table: &mut [u16])
     requires room { (loop_of course.now).size * width (letters_of course.now) ≤ length table.old }
     ensures { Lines (loop_of course.now) (letters_of course.now) table.new (loop_of course.now).size }
 {
-    let width = course.checked.letters.len() + LAST_COLUMNS;
+    let letters = course.checked.letters.len();
     let mut line = [NO_ROW; MOST_LETTERS];
     for place in 0..course.size() {
         course.line(place, &mut line);
-        put(
-            &line,
-            course.checked.letters.len(),
-            place as usize * width,
-            table,
-        );
+        let start = place as usize * (letters + LAST_COLUMNS);
+        table[start..start + letters].copy_from_slice(&line[..letters]);
     }
 }

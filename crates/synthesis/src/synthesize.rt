@@ -1,4 +1,4 @@
-ghost use Rattle.std.specs.Prelude.{◌≡◌, ◌-◌, ◌<◌, ◌≤◌, length, slice_index};
+ghost use Rattle.std.specs.Prelude.{◌≡◌, ◌-◌, ◌≤◌, length, slice_index};
 ghost use Rattle.letters.specs.Alphabets.{most_letters};
 ghost use Rattle.property.specs.Placed.{sizes_in};
 ghost use Rattle.synthesis.specs.Fitting.{Read, fitting};
@@ -8,6 +8,7 @@ use crate::course::Course;
 use crate::fault::SynthesisFault;
 use crate::make::make_table;
 use letters::alphabet::Alphabet;
+use letters::letter::Letter;
 use property::check::read_property;
 use property::place::Nodes;
 use property::sizes::MOST_SIZE;
@@ -18,31 +19,30 @@ const WORK_A_PLACE: usize = 4;
 
 /// The size of the property, as it is kept.
 fn property_size(place: &Nodes) -> usize
-    requires { 0 < length (sizes_in place.now) }
     ensures { result ≡ slice_index (sizes_in place.now) (length (sizes_in place.now) - 1) }
 {
-    let sizes = place.sizes();
-    sizes[sizes.len() - 1] as usize
+    usize::from(place.sizes().last().copied().unwrap_or(0))
 }
 
 /// Whether the property is small enough, and the memories are long enough.
 fn fits(
-    size: usize,
-    letters: usize,
-    table: usize,
-    work: usize,
-    at: usize,
+    place: &Nodes,
+    letters: &[Letter],
+    table: &[u16],
+    work: &[u16],
 ) -> Result<(), SynthesisFault>
-    requires { letters ≤ most_letters }
-    ensures { result ≡ fitting size letters table work at }
+    requires { length letters.now ≤ most_letters }
+    ensures { result ≡ fitting (slice_index (sizes_in place.now) (length (sizes_in place.now) - 1)) (length letters.now) (length table.now) (length work.now) place.now.last }
 {
+    let at = place.last_offset();
+    let size = property_size(place);
     if size > MOST_SIZE as usize {
         return Err(SynthesisFault::TooLarge(at));
     }
-    if table < size * (letters + LAST_COLUMNS) {
+    if table.len() < size * (letters.len() + LAST_COLUMNS) {
         return Err(SynthesisFault::TableMemory(at));
     }
-    if work < WORK_A_PLACE * size {
+    if work.len() < WORK_A_PLACE * size {
         return Err(SynthesisFault::WorkingMemory(at));
     }
     Ok(())
@@ -59,19 +59,12 @@ fn fill_table<'a>(
     requires { Read file.now place.now alphabet.now }
     ensures { Synthesis file.now (lent alphabet.now table.old work.old) result (lent alphabet.now table.new work.new) }
 {
-    let at = place.last_offset();
     let letters = alphabet.letters();
-    fits(
-        property_size(place),
-        letters.len(),
-        table.len(),
-        work.len(),
-        at,
-    )?;
+    fits(place, letters, table, work)?;
     let course = Course::new(file, place, letters);
     match make_table(&course, table, work) {
         Some(rows) => Ok(rows as usize),
-        None => Err(SynthesisFault::Stuck(at)),
+        None => Err(SynthesisFault::Stuck(place.last_offset())),
     }
 }
 

@@ -117,8 +117,8 @@ pub(crate) fn write<'a>(course: &'a Course<'a>, weighed: &'a Weighed<'a>, table:
 {
     let width = course.checked.letters.len() + LAST_COLUMNS;
     let count = weighed.count as usize;
-    for i in 0..count {
-        row_of(course, weighed, weighed.order[i]).write(&mut table[i * width..(i + 1) * width]);
+    for (i, &place) in weighed.order[..count].iter().enumerate() {
+        row_of(course, weighed, place).write(&mut table[i * width..(i + 1) * width]);
     }
     table[count * width..].fill(NO_ROW);
 }

@@ -1,14 +1,11 @@
-use Rattle.std.proofs.Common.{length, Some, None, refl, ap, ◌∙◌}
+use Rattle.std.proofs.Common.{length, Some, None, sym, refl, ap, ◌∙◌, subst}
 use Rattle.std.proofs.lemmas.Result.{err_from_is_err_and}
 use Rattle.synthesis.specs.Synthesis.{Fits, lent}
 use Rattle.synthesis.proofs.Answered.{exits}
-use Rattle.synthesis.proofs.Fitted.{grounds, some_size, fits_in, refuses}
+use Rattle.synthesis.proofs.Fitted.{grounds, fits_in, refuses}
 use Rattle.synthesis.proofs.Made.{course_fillable, course_lettered, course_room, course_work, course_made, table_of, stranded, unstranded}
 use Rattle.synthesis.proofs.synthesize.fill_table.Goals as goal
 use Rattle.synthesis.proofs.synthesize.fill_table.Goals.{In_ok-fits}
-
-pub property_size-requires : goal.property_size-requires
-property_size-requires c = some_size c.args.file.now c.args.place.now c.args.alphabet.now c.requires
 
 pub returns-in_err-fits : goal.returns-in_err-fits
 returns-in_err-fits c =
@@ -16,19 +13,19 @@ returns-in_err-fits c =
     let all = lent c.args.alphabet.now c.args.table.now c.args.work.now in
     exits c.args.file.now all all c.from_residual.result p.0 c.in_err-fits.field-0.0 p.1 p.2
     (refuses c.args.file.now c.args.place.now c.args.alphabet.now c.requires
-    c.property_size.result (length c.letters-letters.result.now) (length c.args.table.now) (length c.args.work.now) c.last_offset-at.result
-    c.property_size.ensures (ap length c.letters-letters.ensures) c.last_offset-at.ensures
+    _ (length c.letters-letters.result.now) (length c.args.table.now) (length c.args.work.now) c.args.place.now.last
+    refl (ap length c.letters-letters.ensures) refl
     c.in_err-fits.field-0.0 c.in_err-fits.ensures all)
 
 pub new-course-requires : goal.new-course-requires
 new-course-requires c = grounds c.args.file.now c.args.place.now c.args.alphabet.now c.requires c.letters-letters.result.now c.letters-letters.ensures
 
 -- what the tests leave
-fit : (c : In_ok-fits) → Fits c.args.file.now (length c.args.table.now) (length c.args.work.now) c.requires.parts c.last_offset-at.result
+fit : (c : In_ok-fits) → Fits c.args.file.now (length c.args.table.now) (length c.args.work.now) c.requires.parts c.args.place.now.last
 fit c =
     fits_in c.args.file.now c.args.place.now c.args.alphabet.now c.requires
-    c.property_size.result (length c.letters-letters.result.now) (length c.args.table.now) (length c.args.work.now) c.last_offset-at.result
-    c.property_size.ensures (ap length c.letters-letters.ensures) c.last_offset-at.ensures c.in_ok-fits.ensures
+    _ (length c.letters-letters.result.now) (length c.args.table.now) (length c.args.work.now) c.args.place.now.last
+    refl (ap length c.letters-letters.ensures) refl c.in_ok-fits.ensures
 
 pub make_table-requires : goal.make_table-requires
 make_table-requires c =
@@ -58,7 +55,7 @@ returns-in-Some c =
     c.make_table.new.table (Some c.in-Some.rows) c.in-Some.ensures.table in
     record {
       parts = c.requires.parts;
-      at = c.last_offset-at.result;
+      at = c.args.place.now.last;
       fits = fit (goal.at.returns-in-Some c).In_ok-fits;
       free = unstranded c.args.file.now c.args.place.now c.args.alphabet.now c.requires c.make_table.new.table c.in-Some.rows made;
       alphabet = c.requires.letters;
@@ -72,6 +69,6 @@ returns-in-None c =
     course_made c.args.file.now c.args.place.now c.args.alphabet.now c.requires
     c.new-course.result c.new-course.ensures.file c.new-course.ensures.nodes (c.new-course.ensures.letters ∙ c.letters-letters.ensures)
     c.make_table.new.table None c.in-None.ensures.table in (
-      (c.requires.parts, fit (goal.at.returns-in-None c).In_ok-fits, stranded c.args.file.now c.args.place.now c.args.alphabet.now c.requires made.0),
+      (c.requires.parts, subst (λ at. Fits c.args.file.now (length c.args.table.now) (length c.args.work.now) c.requires.parts at) (sym c.last_offset.ensures) (fit (goal.at.returns-in-None c).In_ok-fits), stranded c.args.file.now c.args.place.now c.args.alphabet.now c.requires made.0),
       record { alphabet = refl {a = c.args.alphabet.now}; table = made.1; work = c.make_table.ensures.cleared },
     )

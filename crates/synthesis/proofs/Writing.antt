@@ -1,5 +1,6 @@
 -- Writing the rows of a table, each into its part of the memory.
-use Rattle.std.proofs.Common.{◌≡◌, ℕ, ◌+◌, ◌-◌, ◌*◌, ◌<◌, ◌≤◌, ◌≢◌, List, length, get_or, set, sym, ap, ◌∙◌, subst, arith, length-set, get_or-set_other, get_or-set_same, below_more}
+use Rattle.std.proofs.Common.{◌≡◌, ℕ, ◌+◌, ◌-◌, ◌*◌, ◌<◌, ◌≤◌, List, ◌++◌, length, get_or, set, sym, ap, ◌∙◌, subst, arith, length-set, get_or-set_other, get_or-set_same, below_more}
+use Rattle.std.proofs.lemmas.List.{get_or_append_left, get_or-append_right}
 use Rattle.std.proofs.lemmas.Nat.{mul-add-lt}
 use borrow.Rule.Slice.PartMut.{put_mid}
 use Rattle.rules.specs.Tabled.{no_row, width}
@@ -9,31 +10,29 @@ use Rattle.synthesis.specs.Table.{AllAre, Cell, Entry, RowsWritten}
 use Rattle.synthesis.specs.Weights.{Lead}
 use Rattle.synthesis.proofs.Parts.{before_part, in_part}
 
+after_cells : (cells last : List ℕ) (n j i : ℕ) → length cells ≡ n → j ≡ n + i → get_or (cells ++ last) j 0 ≡ get_or last i 0
+after_cells cells last n j i long e =
+    let z : j - n ≡ i = omega arith in
+    get_or-append_right cells last n j 0 long (omega arith) ∙ ap (λ (m : ℕ). get_or last m 0) z
+
 module _ (r : Loop) (letters rows : List ℕ) where
   -- the last columns after the cells of a row
-  pub last_columns : (p : ℕ) (row : List ℕ) (owed span lead : ℕ) → length row ≡ width letters
-      → ((k : ℕ) → k < length letters → Cell r rows p (get_or letters k 0) (get_or row k 0)) → LoopOwed r p owed → LoopSpan r p span → Lead r p lead
-      → (j : ℕ) → j < width letters → Entry r letters rows p j (get_or (set (set (set row (length letters) owed) (length letters + 1) span) (length letters + 2) lead) j 0)
-  last_columns p row owed span lead long cells o s l j h =
+  pub last_columns : (p : ℕ) (cells last : List ℕ) (owed span lead : ℕ) → length cells ≡ length letters → length last ≡ 3
+      → ((k : ℕ) → k < length letters → Cell r rows p (get_or letters k 0) (get_or cells k 0)) → LoopOwed r p owed → LoopSpan r p span → Lead r p lead
+      → (j : ℕ) → j < width letters → Entry r letters rows p j (get_or (cells ++ set (set (set last 0 owed) 1 span) 2 lead) j 0)
+  last_columns p cells last owed span lead long three each o s l j h =
       let n = length letters in
-      let a = set row n owed in
-      let b = set a (n + 1) span in
-      let a_long : length a ≡ n + 3 = length-set row n owed ∙ long in
-      let b_long : length b ≡ n + 3 = length-set a (n + 1) span ∙ a_long in
+      let a = set last 0 owed in
+      let b = set a 1 span in
+      let z = set b 2 lead in
+      let a_long : length a ≡ 3 = length-set last 0 owed ∙ three in
+      let b_long : length b ≡ 3 = length-set a 1 span ∙ a_long in
+      let at : (i : ℕ) → j ≡ n + i → get_or (cells ++ z) j 0 ≡ get_or z i 0 = λ (i : ℕ) (e : j ≡ n + i). after_cells cells z n j i long e in
       record {
-        cell = λ k.
-            let x : j ≢ n = omega arith in
-            let y : j ≢ n + 1 = omega arith in
-            let z : j ≢ n + 2 = omega arith in
-            subst (λ v. Cell r rows p (get_or letters j 0) v) (sym (get_or-set_other b (n + 2) j lead 0 z ∙ get_or-set_other a (n + 1) j span 0 y ∙ get_or-set_other row n j owed 0 x)) (cells j k);
-        owed = λ e.
-            let y : j ≢ n + 1 = omega arith in
-            let z : j ≢ n + 2 = omega arith in
-            subst (λ v. LoopOwed r p v) (sym (get_or-set_other b (n + 2) j lead 0 z ∙ get_or-set_other a (n + 1) j span 0 y ∙ ap (λ (i : ℕ). get_or a i 0) e ∙ get_or-set_same row n owed 0 (omega arith))) o;
-        span = λ e.
-            let z : j ≢ n + 2 = omega arith in
-            subst (λ v. LoopSpan r p v) (sym (get_or-set_other b (n + 2) j lead 0 z ∙ ap (λ (i : ℕ). get_or b i 0) e ∙ get_or-set_same a (n + 1) span 0 (omega arith))) s;
-        lead = λ e. subst (λ v. Lead r p v) (sym (ap (λ (i : ℕ). get_or (set b (n + 2) lead) i 0) e ∙ get_or-set_same b (n + 2) lead 0 (omega arith))) l;
+        cell = λ k. subst (λ v. Cell r rows p (get_or letters j 0) v) (sym (get_or_append_left cells z 0 j (omega arith))) (each j k);
+        owed = λ e. subst (λ v. LoopOwed r p v) (sym (at 0 (omega arith) ∙ get_or-set_other b 2 0 lead 0 (λ q. omega arith) ∙ get_or-set_other a 1 0 span 0 (λ q. omega arith) ∙ get_or-set_same last 0 owed 0 (omega arith))) o;
+        span = λ e. subst (λ v. LoopSpan r p v) (sym (at 1 e ∙ get_or-set_other b 2 1 lead 0 (λ q. omega arith) ∙ get_or-set_same a 1 span 0 (omega arith))) s;
+        lead = λ e. subst (λ v. Lead r p v) (sym (at 2 e ∙ get_or-set_same b 2 lead 0 (omega arith))) l;
       }
 
   module _ (order table : List ℕ) (n : ℕ) (written : RowsWritten r letters rows order table n) (within : n * width letters ≤ length table) where

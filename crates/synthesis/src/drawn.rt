@@ -91,6 +91,7 @@ pub(crate) fn draw(course: &Course, table: &mut [u16])
 {
     let letters = course.checked.letters.len();
     let mut line = [NO_ROW; MOST_LETTERS];
+    // A place is a number: there is no slice of places.
     for place in 0..course.size() {
         course.line(place, &mut line);
         let start = place as usize * (letters + LAST_COLUMNS);

@@ -45,6 +45,7 @@ impl<P: Places> Source<'_, P> {
         ensures done { result ≡ false → (p : ℕ) → p < (P.Places.meaning self.now.places.now).size → Into (P.Places.meaning self.now.places.now) marks.new p → Marked marks.new p }
     {
         let mut added = false;
+        // A place is a number; the marks are read as a whole while one of them is set, so they cannot be gone through.
         for place in 0..self.places.size() {
             if marks[place as usize] == 0 && self.leads_to(marks, place) {
                 marks[place as usize] = 1;
@@ -127,7 +128,7 @@ impl<P: Places> Source<'_, P> {
         order[0] = boundary;
         let mut count = 1;
         let mut head = 0;
-        // Rows are added while the loop goes over them, so that no slice or range has them all.
+        // Rows are added while the loop goes over them, so that no slice or range has them all before.
         while head < count {
             let place = order[head as usize];
             count = self.number_from(live, rows, order, count, place);

@@ -92,6 +92,7 @@ impl<P: Places> Source<'_, P> {
         ensures spans { result ≡ true → Spans (P.Places.meaning self.now.places.now) rows.now span.new (P.Places.meaning self.now.places.now).size }
         ensures stranded { result ≡ false → Stranded (P.Places.meaning self.now.places.now) }
     {
+        // A place is a number; its two numbers are worked out from those before them in the same slices.
         for place in 0..self.places.size() {
             if rows[place as usize] != 0 {
                 let Some(least) = self.owed_at(rows, owed, place) else {

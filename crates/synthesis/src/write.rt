@@ -67,8 +67,9 @@ impl Row<'_> {
         requires { AllWeighed (loop_of self.now.course.now) self.now.weighed.now }
         ensures { Lead (loop_of self.now.course.now) self.now.place (unwrap_or result no_row) }
     {
-        let j = (0..self.course.letters().len()).find(|j| self.lowers(*j))?;
-        Some(self.course.letters()[j])
+        let letters = self.course.letters();
+        let j = (0..letters.len()).find(|j| self.lowers(*j))?;
+        Some(letters[j])
     }
 
     /// Writes the row: a cell for each letter, then owed, span and lead.
@@ -77,13 +78,13 @@ impl Row<'_> {
         requires wide { length row.old ≡ width (letters_of self.now.course.now) }
         ensures { (j : ℕ) → j < width (letters_of self.now.course.now) → Entry (loop_of self.now.course.now) (letters_of self.now.course.now) self.now.weighed.now.rows.now self.now.place j (slice_index row.new j) }
     {
-        let letters = self.course.letters().len();
-        for j in 0..letters {
-            row[j] = cell_of(self.next(j));
+        let (cells, last) = row.split_at_mut(self.course.letters().len());
+        for (j, cell) in cells.iter_mut().enumerate() {
+            *cell = cell_of(self.next(j));
         }
-        row[letters] = self.weighed.owed[self.place as usize];
-        row[letters + 1] = self.weighed.span[self.place as usize];
-        row[letters + 2] = cell_of(self.lead().map(u16::from));
+        last[0] = self.weighed.owed[self.place as usize];
+        last[1] = self.weighed.span[self.place as usize];
+        last[2] = cell_of(self.lead().map(u16::from));
     }
 }
 

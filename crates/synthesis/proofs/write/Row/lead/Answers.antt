@@ -15,7 +15,8 @@ first : (c : After-find) → First (length (letters_of c.args.self.now.course.no
 first c =
     let s = c.args.self.now in
     let lowers = test (loop_of s.course.now) (letters_of s.course.now) s.fillable s.weighed.now c.requires s.place s.marked in
-    first_from_Range _ _ _ _ (λ j. lowers j ≡ true) (λ j. lowers j ≡ false) c.find.ensures.ran (λ x q k. search (rules, tests)) (λ x q k. search (rules, tests))
+    let found = first_from_Range _ _ _ _ (λ j. lowers j ≡ true) (λ j. lowers j ≡ false) c.find.ensures.ran (λ x q k. search (rules, tests)) (λ x q k. search (rules, tests)) in
+    rw c.letters-letters.ensures at found
 
 -- and the lead by it
 leads : (c : After-find) → Lead (loop_of c.args.self.now.course.now) c.args.self.now.place (unwrap_or (option_map (λ j. get_or (letters_of c.args.self.now.course.now) j 0) c.find.result) no_row)
@@ -26,8 +27,8 @@ leads c =
 pub returns-in_err-j : goal.returns-in_err-j
 returns-in_err-j c = let x = leads (goal.at.returns-in_err-j c).After-find in rw c.from_residual.ensures (rw c.in_err-j.was at x)
 
-pub bounds-self-j : goal.bounds-self-j
-bounds-self-j c = let x = first (goal.at.bounds-self-j c).After-find in (rw c.in_ok-j.was at x).1
+pub bounds-letters-j : goal.bounds-letters-j
+bounds-letters-j c = let x = first (goal.at.bounds-letters-j c).After-find in (rw c.in_ok-j.was at x).1
 
 pub returns : goal.returns
 returns c = let x = leads (goal.at.returns c).After-find in rw c.in_ok-j.was at x

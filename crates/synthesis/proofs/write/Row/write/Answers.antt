@@ -14,7 +14,7 @@ returns c =
     let here = c.requires.weighs.numbered.rowed.long in
     let within = marked_within w.rows.now s.place s.marked in
     let lead : unwrap_or c.map.result no_row ≡ unwrap_or c.lead.result no_row = search rules in
-    last_columns r (letters_of s.course.now) w.rows.now s.place c.loop-j.row _ _ _ (omega (arith, c.requires.wide)) (λ k h. c.loop-j.invariant k (omega arith))
+    last_columns r (letters_of s.course.now) w.rows.now s.place c.loop-j.cells _ _ _ _ (omega (arith, c.requires.wide, c.split_at_mut-cells.ensures.front_len)) (omega (arith, c.requires.wide, c.split_at_mut-cells.ensures.back_len)) (λ k h. c.loop-j.invariant k (omega arith))
     (c.requires.weighs.owes.owes s.place (omega arith) s.marked)
     (c.requires.weighs.spans.spans s.place (omega arith) s.marked)
     (subst (λ v. Lead r s.place v) (sym (c.cell_of-2.ensures ∙ lead)) c.lead.ensures)

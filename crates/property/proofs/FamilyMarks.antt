@@ -10,7 +10,7 @@ use Rattle.property.specs.Sized.{MarksAlso, named_before, names_before}
 use Rattle.property.specs.Sizes.{some_branch, by_branches, in_family}
 use Rattle.property.proofs.Branching.{one_branch, no_branch}
 use Rattle.property.proofs.Families.{before_true, branch_in_family, branch_some, in_family_is, itself_in_family, past_last, some_branch_true}
-use Rattle.property.proofs.SizingNodes.{or_none}
+use Rattle.std.proofs.Math.Bool.{or-false}
 use Rattle.property.proofs.Numbering.{before_lt, before_ge, from_earlier, lt_or_ge}
 
 -- what is marked and what the branches that are left name are together what is to be marked
@@ -46,7 +46,7 @@ module _ (body rest x left : List ℕ) (end : ℕ) (was marked : List Bool) (so_
 pub marking_all : (body rest : List ℕ) (end : ℕ) (was marked : List Bool) → Marking body rest end was marked → length rest < 3 → MarksAlso (names_before (branches body) end) was marked
 unfolding some_branch
 marking_all body rest end was marked so_far short m =
-    or_none (get_or marked m false) ∙ sym (ap (λ bs. get_or marked m false || names_before bs end m) (no_branch rest short)) ∙ so_far m
+    sym (or-false (get_or marked m false)) ∙ sym (ap (λ bs. get_or marked m false || names_before bs end m) (no_branch rest short)) ∙ so_far m
 
 -- n alone is marked
 abbrev pub Alone : ℕ → List Bool → Type 0
@@ -63,7 +63,7 @@ module _ (nodes : List Node) (n : ℕ) where
   pub swept_past : (marked : List Bool) → length nodes ≤ n → Alone n marked → (m : ℕ) → m < length marked → get_or marked m false ≡ in_family nodes n m
   swept_past marked h alone m l =
       alone m l
-      ∙ or_none (eqb n m)
+      ∙ sym (or-false (eqb n m))
       ∙ sym (in_family_is nodes n m ∙ ap (λ x. eqb n m || by_branches (before false n (λ k. in_family nodes k m)) x) (past_last nodes n h))
 
   pub swept_none : (marked : List Bool) → n < length marked → Alone n marked → Swept nodes n marked (n + 1)
@@ -181,4 +181,4 @@ module _ (nodes : List Node) (n : ℕ) where
   pub swept_skip : (marked : List Bool) (m : ℕ) → 0 < m → Swept nodes n marked m → get_or marked (m - 1) false ≡ false → Swept nodes n marked (m - 1)
   swept_skip marked m h s e =
       swept_more marked marked m h s
-      (λ k. or_none (get_or marked k false) ∙ sym (ap (λ b. get_or marked k false || (b && by_branches (before false (m - 1) (λ j. eqb j k)) (node nodes (m - 1)))) e))
+      (λ k. sym (or-false (get_or marked k false)) ∙ sym (ap (λ b. get_or marked k false || (b && by_branches (before false (m - 1) (λ j. eqb j k)) (node nodes (m - 1)))) e))

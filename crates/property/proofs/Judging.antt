@@ -1,7 +1,7 @@
 -- One record judged: from the checks of the program to the definition.
-use Rattle.std.proofs.Common.{◌≡◌, ℕ, ◌<◌, ◌≤◌, Bool, true, false, cond, not, ◌||◌, ltb, leb, List, [], ◌∷◌, ◌++◌, length, get_or, Some, None, Ok, Err, Option, Result, sym, refl, ap, ◌∙◌, subst, arith, Bor}
+use Rattle.std.proofs.Common.{◌≡◌, ℕ, ◌<◌, ◌≤◌, Bool, true, false, cond, not, ltb, leb, List, [], ◌∷◌, ◌++◌, length, get_or, Some, None, Ok, Err, Option, Result, sym, refl, ap, ◌∙◌, subst, arith, Bor}
 use Rattle.std.proofs.lemmas.List.{length-map, map_push}
-use Rattle.std.proofs.lemmas.Bool.{ne_eqb, leb-false}
+use Rattle.std.proofs.lemmas.Bool.{ne_eqb, leb-false, or_parts}
 use Rattle.letters.specs.Alphabets.{barred}
 use Rattle.records.specs.declared.record.Record.{Record}
 use Rattle.records.specs.declared.record.Record.TheVariants.{Letter, Nothing, Choice, Sequence, Both, Lap, All}
@@ -71,12 +71,8 @@ pub letter_taken : (s : Parts) (body : List ℕ) (at : ℕ) → barred_next s (g
 unfolding judge
 letter_taken s body at e = sym (ap (λ (t : Bool). cond t (Err (Declaration at)) (Ok (with_letter s (get_or body 0 0)))) e)
 
-or_right : (a b : Bool) → (a || b) ≡ false → b ≡ false
-or_right true b e = cc
-or_right false b e = e
-
 pub not_barred : (s : Parts) (b : ℕ) → barred_next s b ≡ false → barred (least_past s.declared) (length s.declared) b ≡ false
-not_barred s b e = or_right (ltb 0 (length s.nodes)) (barred (least_past s.declared) (length s.declared) b) e
+not_barred s b e = (or_parts (ltb 0 (length s.nodes)) _ e).1
 
 pub not_letter : (i : Record) → ((x : Bor (List ℕ)) → i ≡ Letter x → ⊥) → 2 ≤ kind_of i
 not_letter (Letter b) h = absurd (h b refl)

@@ -1,6 +1,7 @@
 -- The letters declared so far, and one more, are such as may be declared.
-use Rattle.std.proofs.Common.{◌≡◌, ℕ, suc, ◌+◌, ◌-◌, ◌<◌, ◌≤◌, Bool, true, false, cond, ◌||◌, eqb, List, [], ◌∷◌, ◌++◌, length, get_or, take, set, is_some, Some, None, Option, sym, refl, ap, ◌∙◌, subst, add-zero, arith, ne_eqb}
+use Rattle.std.proofs.Common.{◌≡◌, ℕ, suc, ◌+◌, ◌-◌, ◌<◌, ◌≤◌, Bool, false, cond, ◌||◌, eqb, List, [], ◌∷◌, ◌++◌, length, get_or, take, set, is_some, Some, None, Option, sym, refl, ap, ◌∙◌, subst, add-zero, arith, ne_eqb}
 use Rattle.std.proofs.lemmas.List.{take_more_set, length-take-le}
+use Rattle.std.proofs.Math.Bool.{or_assoc}
 use Rattle.letters.specs.Alphabets.{first_barred, barred, among, most_declared}
 use Rattle.letters.proofs.Declaring.{none_further, declared_byte}
 use Rattle.property.specs.Checks.{least_past}
@@ -64,10 +65,6 @@ still_lawful ls n b h e f =
     ap (λ ds. is_some (first_barred 0 0 ds)) (take_more_set ls n b h)
     ∙ ap is_some (one_more (take n ls) b (lawful (take n ls) e) f)
 
-or_or : (a b d : Bool) → (a || (b || d)) ≡ ((a || b) || d)
-or_or true b d = refl
-or_or false b d = refl
-
 pub among_joined : (l : ℕ) (ds es : List ℕ) → among l (ds ++ es) ≡ (among l ds || among l es)
 among_joined l [] es = refl
-among_joined l (d ∷ ds) es = ap (λ (t : Bool). eqb d l || t) (among_joined l ds es) ∙ or_or (eqb d l) (among l ds) (among l es)
+among_joined l (d ∷ ds) es = ap (λ (t : Bool). eqb d l || t) (among_joined l ds es) ∙ sym (or_assoc (eqb d l) (among l ds) (among l es))

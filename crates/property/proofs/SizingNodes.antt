@@ -1,5 +1,5 @@
 -- The size of a program's node, by its kind, from the sizes kept of the earlier ones.
-use Rattle.std.proofs.Common.{zip, take, length-take-le, ◌≡◌, ℕ, ◌+◌, ◌*◌, ◌<◌, ◌≤◌, max, Bool, true, false, cond, ◌||◌, ltb, ◌⊎◌, List, [], ◌∷◌, length, get_or, set, sym, refl, ap, ◌∙◌, subst, ap₂, inl, inr, arith, get_or-set_other, get_or-set_same}
+use Rattle.std.proofs.Common.{zip, take, length-take-le, ◌≡◌, ℕ, ◌+◌, ◌*◌, ◌<◌, ◌≤◌, max, Bool, true, false, cond, ltb, ◌⊎◌, List, [], ◌∷◌, length, get_or, set, sym, refl, ap, ◌∙◌, subst, ap₂, inl, inr, arith, get_or-set_other, get_or-set_same}
 use lib.ListN.{get_or-map}
 use Rattle.std.proofs.lemmas.List.{get_or_past, get_or-take}
 use Rattle.std.proofs.lemmas.Bool.{and_parts, ltb-true}
@@ -45,10 +45,6 @@ weight_meant file f m (All c d) = refl
 cut_cond : (b : Bool) (x y : ℕ) → cut x ≡ cut y → cut (cond b x 0) ≡ cut (cond b y 0)
 cut_cond true x y e = e
 cut_cond false x y e = refl
-
-pub or_none : (x : Bool) → x ≡ (x || false)
-or_none true = refl
-or_none false = refl
 
 module _ (file : List ℕ) (nodes : List Node) where
   node_meant : (n : ℕ) (x : Node) → get_or nodes n Nothing ≡ x → N.node (all_meant file nodes) n ≡ meant file x

@@ -28,7 +28,7 @@ pub returns-in_err-j : goal.returns-in_err-j
 returns-in_err-j c = let x = leads (goal.at.returns-in_err-j c).After-find in rw c.from_residual.ensures (rw c.in_err-j.was at x)
 
 pub bounds-letters-j : goal.bounds-letters-j
-bounds-letters-j c = let x = first (goal.at.bounds-letters-j c).After-find in (rw c.in_ok-j.was at x).1
+bounds-letters-j c = let x = first (goal.at.bounds-letters-j c).After-find in rw c.letters-letters.ensures ((rw c.in_ok-j.was at x).1)
 
 pub returns : goal.returns
-returns c = let x = leads (goal.at.returns c).After-find in rw c.in_ok-j.was at x
+returns c = let x = leads (goal.at.returns c).After-find in rw c.letters-letters.ensures (rw c.in_ok-j.was at x)

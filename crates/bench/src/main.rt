@@ -64,15 +64,6 @@ fn print_reply(rt: &HostRuntime, byte: Letter, reply: Reply, written: &[Letter])
     }
 }
 
-/// How many letters an answer says were written.
-fn written_by(reply: Reply) -> usize {
-    match reply {
-        Reply::Passed => 1,
-        Reply::Closed(count) => count,
-        _ => 0,
-    }
-}
-
 /// The byte that a call offers, none for a begin.
 fn offered_by(call: Call) -> Option<Letter> {
     match call {
@@ -87,7 +78,7 @@ fn print_run(rt: &HostRuntime, calls: &[Call], run: &Run) -> io::Result<()> {
     let mut line = run.line.as_slice();
     for (call, reply) in calls.iter().zip(run.replies.iter()) {
         if let Some(byte) = offered_by(*call) {
-            let (written, rest) = line.split_at(written_by(*reply).min(line.len()));
+            let (written, rest) = line.split_at(reply.written().min(line.len()));
             print_reply(rt, byte, *reply, written)?;
             line = rest;
         }

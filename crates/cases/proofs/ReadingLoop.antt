@@ -4,6 +4,7 @@ use Rattle.records.specs.declared.fault.ReadFault.{ReadFault}
 use Rattle.records.specs.declared.record.Record.{Record}
 use Rattle.records.specs.Readings.{Reading, reading, reading_at, with_item}
 use Rattle.records.specs.Readers.{item_of, Hands, HandsRecord}
+use Rattle.property.proofs.Filling.{Answer, hands_of}
 use Rattle.cases.specs.Reading.{outcome, by_fault}
 
 pub record Sofar (file seen : List ℕ) (at count : ℕ) : Type 0 where
@@ -15,14 +16,6 @@ pub record Sofar (file seen : List ℕ) (at count : ℕ) : Type 0 where
 pub sofar_none : (file seen : List ℕ) (at : ℕ) → seen ≡ file → at ≡ 0 → reading_at file 0 ≡ reading file → Sofar file seen at 0
 sofar_none file seen at e z whole =
     record { same = e; few = omega arith; within = omega arith; left = ap (λ n. outcome 0 (reading_at file n)) z ∙ ap (outcome 0) whole }
-
--- an answer of the reader
-abbrev Answer : Type 0
-Answer = Result (Option (Record × ℕ)) ReadFault
-
--- what the reader hands out of the file that it holds, it hands out of the file
-hands_of : (file seen : List ℕ) (at after : ℕ) (x y : Answer) → seen ≡ file → Hands seen at x after → x ≡ y → Hands file at y after
-hands_of file seen at after x y e h k = subst (λ z. Hands file at z after) k (subst (λ f. Hands f at x after) e h)
 
 one_more : (count : ℕ) (r : Record × ℕ) (rest : Reading) → outcome (count + 1) rest ≡ outcome count (with_item (item_of r) rest)
 one_more count r rest =

@@ -64,27 +64,10 @@ fn print_declared(rt: &HostRuntime, at: usize, body: &[u8]) -> io::Result<()> {
     println!(rt; "")
 }
 
-/// Prints what is wrong with a file, in words.
-fn print_reason(rt: &HostRuntime, fault: PropertyFault) -> io::Result<()> {
-    let words = match fault {
-        PropertyFault::Read(fault) => return println!(rt; "{fault}"),
-        PropertyFault::Declaration(_) => "the letter may not be declared here",
-        PropertyFault::TooManyNodes(_) => "there are over 256 nodes",
-        PropertyFault::NotEarlier(_) => "a node that it names is not earlier",
-        PropertyFault::WrongKind(_) => "a node that it names is of the wrong kind",
-        PropertyFault::BranchLetter(_) =>
-            "branch letters do not ascend, or are not in the alphabet",
-        PropertyFault::OpenLap(_) => "the lap is over a node that does not close",
-        PropertyFault::NoProperty(_) => "there is no node, or the last is neither a lap nor an all",
-    };
-    println!(rt; "{words}")
-}
-
 /// Prints a refusal with its reason.
 fn print_refusal(rt: &HostRuntime, fault: PropertyFault) -> io::Result<()> {
     let Report { number, offset, .. } = fault.report();
-    print!(rt; "refused {number} at {offset}: ")?;
-    print_reason(rt, fault)
+    println!(rt; "refused {number} at {offset}: {fault}")
 }
 
 /// Prints the records that begin before an offset, and the counts where that is the end of the file.

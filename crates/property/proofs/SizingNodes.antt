@@ -34,7 +34,7 @@ weighed (Both c d) a b h = h
 weighed (Lap c) a b h = h
 weighed (All c d) a b h = h
 
-weight_meant : (file : List ℕ) (f : ℕ → ℕ) (m : ℕ) (x : Node) → counted x (f m) ≡ weight f m (meant file x)
+pub weight_meant : (file : List ℕ) (f : ℕ → ℕ) (m : ℕ) (x : Node) → counted x (f m) ≡ weight f m (meant file x)
 weight_meant file f m Nothing = refl
 weight_meant file f m (Choice start count) = refl
 weight_meant file f m (Sequence c d) = refl

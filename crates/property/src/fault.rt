@@ -3,7 +3,9 @@ ghost use Rattle.property.specs.declared.fault.PropertyFault.TheVariants.{Read};
 ghost use Rattle.property.specs.Faults.{property_report};
 
 use letters::refusal::Report;
+use crate::node::MOST_NODES;
 use records::fault::ReadFault;
+use std::fmt;
 
 /// What is wrong with a property, or with its file's records; with the offset of the record, or of the file's end.
 #[derive(Clone, Copy, PartialEq, Eq, Debug)]
@@ -45,6 +47,25 @@ impl PropertyFault {
             layer: 2,
             number,
             offset,
+        }
+    }
+}
+
+impl fmt::Display for PropertyFault {
+    fn fmt<W: fmt::Write>(&self, f: &mut fmt::Formatter<W>) -> fmt::Result {
+        match self {
+            PropertyFault::Read(fault) => write!(f, "{fault}"),
+            PropertyFault::Declaration(_) => f.write_str("the letter may not be declared here"),
+            PropertyFault::TooManyNodes(_) => write!(f, "there are over {MOST_NODES} nodes"),
+            PropertyFault::NotEarlier(_) => f.write_str("a node that it names is not earlier"),
+            PropertyFault::WrongKind(_) => f.write_str("a node that it names is of the wrong kind"),
+            PropertyFault::BranchLetter(_) => {
+                f.write_str("branch letters do not ascend, or are not in the alphabet")
+            }
+            PropertyFault::OpenLap(_) => f.write_str("the lap is over a node that does not close"),
+            PropertyFault::NoProperty(_) => {
+                f.write_str("there is no node, or the last is neither a lap nor an all")
+            }
         }
     }
 }

@@ -33,7 +33,7 @@ fn product(a: u16, b: u16) -> u16
 }
 
 /// What a node counts in a family: a Choice 1, any other its size.
-fn weight_of(node: Node, own: u16) -> u16
+pub fn weight_of(node: Node, own: u16) -> u16
     ensures { result ≡ counted node own }
 {
     match node {

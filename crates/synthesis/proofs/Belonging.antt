@@ -35,14 +35,6 @@ use Rattle.synthesis.proofs.Grounding.{node_as}
 abbrev pub Other : P.Node → Type 0
 Other x = (start count : ℕ) → x ≡ V.Choice start count → ⊥
 
-weight_other : (file : List ℕ) (f : ℕ → ℕ) (m : ℕ) (x : P.Node) → Other x → weight f m (meant file x) ≡ f m
-weight_other file f m V.Nothing other = refl
-weight_other file f m (V.Choice start count) other = absurd (other start count refl)
-weight_other file f m (V.Sequence a b) other = refl
-weight_other file f m (V.Both a b) other = refl
-weight_other file f m (V.Lap a) other = refl
-weight_other file f m (V.All a b) other = refl
-
 whole_other : (file : List ℕ) (w : Walk) (x : P.Node) → Other x → member_of w (meant file x) ≡ Whole w
 whole_other file w V.Nothing other = refl
 whole_other file w (V.Choice start count) other = absurd (other start count refl)
@@ -52,14 +44,6 @@ whole_other file w (V.Lap a) other = refl
 whole_other file w (V.All a b) other = refl
 
 module _ (c : Course) (m : ℕ) (x : P.Node) (e : node (nodes_of c) m ≡ meant c.checked.file.now x) where
-  pub weight_of_choice : (start count : ℕ) → x ≡ V.Choice start count → 1 ≡ weight_kept c m
-  weight_of_choice start count q =
-      sym (ap (λ y. weight (λ k. cut (size (nodes_of c) k)) m y) (node_as c.checked.file.now c.checked.nodes.now m x (V.Choice start count) e q))
-
-  pub weight_of_other : Other x → cut (size (nodes_of c) m) ≡ weight_kept c m
-  weight_of_other other =
-      sym (ap (λ y. weight (λ k. cut (size (nodes_of c) k)) m y) e ∙ weight_other c.checked.file.now (λ k. cut (size (nodes_of c) k)) m x other)
-
   pub whole_of_other : Other x → member_of (walk (nodes_of c) m) (node (nodes_of c) m) ≡ Whole (walk (nodes_of c) m)
   whole_of_other other = ap (λ y. member_of (walk (nodes_of c) m) y) e ∙ whole_other c.checked.file.now (walk (nodes_of c) m) x other
 

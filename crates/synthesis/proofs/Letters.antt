@@ -43,6 +43,3 @@ ascends least [] i j e h k = absurd (omega arith)
 ascends least (l ∷ ls) i zero e h k = absurd (omega arith)
 ascends least (l ∷ ls) zero (suc j) e h k = omega (arith, above_least (suc l) ls j (and_parts (leb least l) (ascending_from (suc l) ls) e).1 (omega arith))
 ascends least (l ∷ ls) (suc i) (suc j) e h k = ascends (suc l) ls i j (and_parts (leb least l) (ascending_from (suc l) ls) e).1 (omega arith) (omega arith)
-
-pub not_end : (l : ℕ) → insertable l ≡ true → l ≡ end → ⊥
-not_end l can e = false≢true (sym (ap insertable e) ∙ can)

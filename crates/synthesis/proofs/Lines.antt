@@ -11,7 +11,7 @@ use Rattle.places.specs.declared.outcome.Outcome.{Outcome}
 use Rattle.places.specs.declared.outcome.Outcome.TheVariants.{Dead, Done, At}
 use Rattle.places.proofs.Falling.{Below}
 use Rattle.synthesis.specs.declared.course.Course.{Course}
-use Rattle.synthesis.specs.Courses.{Ready, PlaceOf, Row, course, nodes_of, letters_of}
+use Rattle.synthesis.specs.Courses.{PlaceOf, Row, course, nodes_of, letters_of}
 use Rattle.synthesis.specs.Members.{Belongs}
 use Rattle.synthesis.specs.Outcomes.{Like, after_first, kept, lapped}
 use Rattle.synthesis.proofs.Grounding.{sequence_earlier, product_earlier, lap_earlier}
@@ -42,10 +42,6 @@ positive x y z p q l = elim (cases_lt 0 x) [
   | inl h ↦ h
   | inr h ↦ let m = mul-le x y 0 y h (omega arith) in absurd (omega arith)
 ]
-
--- what each course has
-pub ready : (c : Course) → Ready c
-ready c = record { grounded = c.checked.grounds; starts = c.starts_kept; ones = c.ones_kept }
 
 module _ (c : Course) where
   abbrev nodes : List Node

@@ -11,7 +11,8 @@ use Rattle.synthesis.specs.Marks.{Marked, onward}
 use Rattle.synthesis.specs.Numbers.{Rowed}
 use Rattle.synthesis.specs.Weights.{Owes, Spans, Inserts, GoesOn, OwedAt, Lead, beyond, owed_by, span_by}
 use Rattle.synthesis.proofs.Best.{Best}
-use Rattle.synthesis.proofs.Letters.{among_at, ascends, not_end}
+use Rattle.rules.proofs.Follows.{not_end}
+use Rattle.synthesis.proofs.Letters.{among_at, ascends}
 use Rattle.synthesis.proofs.Paths.{some_same, first_step, step_on, live_back, marked_some, onward_is}
 use Rattle.synthesis.proofs.Ways.{way_live, owed_live, way_none, way_end, way_more, way_less, owed_same, lead_exists}
 use Rattle.rules.proofs.Follows.{none_some}

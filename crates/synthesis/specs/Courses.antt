@@ -26,12 +26,6 @@ letters_of c = c.checked.letters.now
 abbrev pub loop_of : Course → Loop
 loop_of c = loop (nodes_of c) (last_node (nodes_of c))
 
--- what each course has
-pub record Ready (c : Course) : Type 0 where
-  pub grounded : Grounds c.checked.file.now c.checked.nodes.now (letters_of c)
-  pub starts : StartsKept (nodes_of c) c.starts
-  pub ones : OnesKept (nodes_of c) (letters_of c) c.ones
-
 -- p is a place of a node whose size is kept as it is
 pub record PlaceOf (c : Course) (n p : ℕ) : Type 0 where
   pub within : n < length (nodes_of c)

@@ -2,7 +2,7 @@ ghost use Rattle.std.specs.Prelude.{◌≡◌, ◌*◌, ◌≤◌, true, length,
 ghost use Rattle.letters.specs.Alphabets.{ascending_from, most_letters};
 ghost use Rattle.property.specs.Sized.{most_size};
 ghost use Rattle.rules.specs.Tabled.{no_row, row_named, width};
-ghost use Rattle.synthesis.specs.Courses.{Ready, letters_of, loop_of};
+ghost use Rattle.synthesis.specs.Courses.{letters_of, loop_of};
 ghost use Rattle.synthesis.specs.Drawn.{Columned, Lines, drawn};
 
 use crate::course::Course;
@@ -84,7 +84,6 @@ pub(crate) fn columns_of(letters: &[Letter]) -> [Option<u8>; LETTER_BOUND]
 
 /// Draws the places of the property's loop.
 pub(crate) fn draw(course: &Course, table: &mut [u16])
-    requires ready { Ready course.now }
     requires few { (loop_of course.now).size ≤ most_size }
     requires room { (loop_of course.now).size * width (letters_of course.now) ≤ length table.old }
     ensures { Lines (loop_of course.now) (letters_of course.now) table.new (loop_of course.now).size }

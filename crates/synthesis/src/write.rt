@@ -1,7 +1,7 @@
 ghost use Rattle.std.specs.Prelude.{◌≡◌, ℕ, ◌+◌, ◌*◌, ◌<◌, ◌≤◌, true, false, length, Some, ◌≢◌, slice_index, unwrap_or};
 ghost use Rattle.letters.specs.Alphabets.{most_letters};
 ghost use Rattle.rules.specs.Tabled.{no_row, width};
-ghost use Rattle.synthesis.specs.Courses.{Ready, letters_of, loop_of};
+ghost use Rattle.synthesis.specs.Courses.{letters_of, loop_of};
 ghost use Rattle.synthesis.specs.Drawn.{Line};
 ghost use Rattle.synthesis.specs.Fillable.{Fillable};
 ghost use Rattle.synthesis.specs.Marks.{Marked, onward};
@@ -90,7 +90,6 @@ impl Row<'_> {
 
 /// The row of a place that has one.
 fn row_of<'a>(course: &'a Course<'a>, weighed: &'a Weighed<'a>, place: u16) -> Row<'a>
-    requires ready { Ready course.now }
     requires fillable { Fillable (loop_of course.now) (letters_of course.now) }
     requires inside { place < (loop_of course.now).size }
     requires marked { Marked weighed.now.rows.now place }
@@ -110,7 +109,6 @@ fn row_of<'a>(course: &'a Course<'a>, weighed: &'a Weighed<'a>, place: u16) -> R
 
 /// Writes the whole table memory.
 pub(crate) fn write<'a>(course: &'a Course<'a>, weighed: &'a Weighed<'a>, table: &mut [u16])
-    requires ready { Ready course.now }
     requires fillable { Fillable (loop_of course.now) (letters_of course.now) }
     requires weighs { AllWeighed (loop_of course.now) weighed.now }
     requires room { (loop_of course.now).size * width (letters_of course.now) ≤ length table.old }

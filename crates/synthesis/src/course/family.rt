@@ -13,6 +13,7 @@ use letters::letter::Letter;
 use places::outcome::Outcome;
 use property::branches::branches_at;
 use property::node::{MOST_NODES, Node};
+use property::sizes::weight_of;
 
 impl Course<'_> {
     /// What a node counts in a family: a Choice 1, any other its size.
@@ -20,10 +21,7 @@ impl Course<'_> {
         requires { m < length (nodes_of self.now) }
         ensures { result ≡ weight_kept self.now m }
     {
-        match self.checked.node(m) {
-            Node::Choice(_, _) => 1,
-            _ => self.checked.size_at(m),
-        }
+        weight_of(self.checked.node(m), self.checked.size_at(m))
     }
 
     /// The first place of each member of the family of `n`.

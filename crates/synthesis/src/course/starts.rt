@@ -1,6 +1,6 @@
 ghost use Rattle.std.specs.Prelude.{◌≡◌, ◌<◌, length};
 ghost use Rattle.property.specs.Sizes.{size};
-ghost use Rattle.synthesis.specs.Courses.{Grounds, Ready, StartsBefore, StartsKept, checked_nodes, course};
+ghost use Rattle.synthesis.specs.Courses.{Grounds, StartsBefore, StartsKept, checked_nodes, course};
 ghost use Rattle.synthesis.specs.Outcomes.{Like, lap_start};
 
 use crate::course::outcomes::{after_first, met};
@@ -53,7 +53,6 @@ impl<'a> Course<'a> {
     /// The course over a file's nodes, with the letters of their alphabet.
     pub(crate) fn new(file: &'a [u8], nodes: &'a Nodes, letters: &'a [Letter]) -> Self
         requires { Grounds file.now nodes.now letters.now }
-        ensures ready { Ready result }
         ensures file { result.checked.file.now ≡ file.now }
         ensures nodes { result.checked.nodes.now ≡ nodes.now }
         ensures letters { result.checked.letters.now ≡ letters.now }

@@ -18,7 +18,7 @@ loop-place-preserved c =
     let h : p < (loop_of c.args.course.now).size = omega (arith, c.size-place-end.ensures) in
     let room : a + n ≤ length c.loop-place.table = omega (arith, mul-add-lt p (width letters) n (loop_of c.args.course.now).size h (omega arith), c.requires.room) in
     let same : copied ≡ take n line = c.copy_from_slice.ensures.after in
-    let few : n ≤ length line = omega (arith, c.requires.ready.grounded.few_letters) in
+    let few : n ≤ length line = omega (arith, c.args.course.now.checked.grounds.few_letters) in
     lines_more (loop_of c.args.course.now) letters c.loop-place.table _ line p c.loop-place.invariant c.line.ensures
     (λ j k. in_part c.loop-place.table copied a _ j no_row (omega (arith, ap length same, length-take-le n line few)) (omega arith) ∙ ap (λ xs. get_or xs j no_row) same ∙ get_or-take n line j no_row k)
     (λ k l. before_part c.loop-place.table copied a _ k no_row l (omega arith))

@@ -32,7 +32,6 @@ make_table-requires c =
     let fits = fit (goal.at.make_table-requires c).In_ok-fits in
     let letters = c.new-course.ensures.letters ∙ c.letters-letters.ensures in
     record {
-      ready = c.new-course.ensures.ready;
       fillable =
           course_fillable c.args.file.now c.args.place.now c.args.alphabet.now c.requires
           c.new-course.result c.new-course.ensures.file c.new-course.ensures.nodes letters _ _ _ fits;

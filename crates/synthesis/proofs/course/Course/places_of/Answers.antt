@@ -1,9 +1,12 @@
-use Rattle.std.proofs.Common.{◌∙◌}
-use Rattle.synthesis.proofs.Belonging.{weight_of_choice, weight_of_other}
+use Rattle.std.proofs.Common.{ℕ, ap, sym, ◌∙◌}
+use Rattle.property.specs.Sized.{counted, cut}
+use Rattle.property.specs.Sizes.{size, weight}
+use Rattle.property.proofs.SizingNodes.{weight_meant}
+use Rattle.synthesis.specs.Courses.{nodes_of}
 use Rattle.synthesis.proofs.course.Course.places_of.Goals as goal
 
-pub returns-in-Choice : goal.returns-in-Choice
-returns-in-Choice c = weight_of_choice c.args.self.now c.args.m _ c.node.ensures _ _ c.in-Choice.is
-
-pub returns-in_default : goal.returns-in_default
-returns-in_default c = c.size_at.ensures ∙ weight_of_other c.args.self.now c.args.m _ c.node.ensures c.in_default.not-Choice
+pub returns : goal.returns
+returns c =
+    let s = c.args.self.now in
+    let sizes : ℕ → ℕ = λ k. cut (size (nodes_of s) k) in
+    c.weight_of.ensures ∙ (ap (counted c.node.result) c.size_at.ensures ∙ (weight_meant s.checked.file.now sizes c.args.m c.node.result ∙ ap (weight sizes c.args.m) (sym c.node.ensures)))

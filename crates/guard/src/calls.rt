@@ -106,6 +106,7 @@ impl Running {
         if !rule.is_live(self.place) {
             return Err((self, Refusal::NotLive));
         }
+        // A cast, since the language widens no `u32` to a `usize` by `From`.
         let owed = rule.owed_at(self.place) as usize;
         if owed >= out.len() {
             return Err((self, Refusal::Short));

@@ -2,8 +2,8 @@ ghost use Rattle.std.specs.Prelude.{◌≡◌};
 ghost use Rattle.property.specs.declared.fault.PropertyFault.TheVariants.{Read};
 ghost use Rattle.property.specs.Faults.{property_report};
 
-use letters::refusal::Report;
 use crate::node::MOST_NODES;
+use letters::refusal::Report;
 use records::fault::ReadFault;
 use std::fmt;
 

@@ -15,6 +15,7 @@ pub const MOST_SIZE: u16 = 1024;
 fn kept_size(whole: u32) -> u16
     ensures { result ≡ cut whole }
 {
+    // A cast, since the bound shows that it loses nothing, and `try_from` would leave an error to rule out.
     whole.min(u32::from(MOST_SIZE + 1)) as u16
 }
 

@@ -13,6 +13,7 @@ pub const MOST_BYTES: usize = 16_384;
 pub const HEADER_BYTES: usize = 4;
 
 /// Walks the records of a property file, from an offset on.
+// The whole file and an offset, since each record is handed out with the offset where it stands.
 #[derive(Drop)]
 pub struct Reader<'a> {
     file: &'a [u8],

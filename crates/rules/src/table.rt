@@ -35,6 +35,7 @@ impl<'a> Table<'a> {
         ensures exact { TableMade (letters_of alphabet.now) memory.now rows result }
         ensures lawful { TableLawful result }
     {
+        // Casts, since the language has no `From` between these; the test before the second shows that it loses nothing.
         if rows as u64 > MOST_PLACES {
             return Err(RuleFault::Places);
         }

@@ -130,6 +130,8 @@ fn a_cap_keeps_room_for_what_is_owed(rt: HostRuntime) -> Result<(), Fail> {
     Ok(())
 }
 
+// Casts in constants, where `From` cannot be called, and between types that have none.
+
 /// The rows of no tick or two in a cycle: tick, end, owed, span, lead; the lead is read in the second row alone.
 const PAIRED_ROWS: [u16; 15] = [
     1,

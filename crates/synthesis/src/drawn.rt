@@ -11,6 +11,9 @@ use letters::letter::{LETTER_BOUND, Letter};
 use places::places::{MOST_SIZE, Places};
 use rules::table::{LAST_COLUMNS, NO_ROW};
 
+// Places are widened by `as` where they index: the check shows that this loses nothing, and `usize::from` in each index was
+// tried: it is longer, and each proof then needs its clause.
+
 /// The places of a loop, drawn into a memory: a row for each place, with a cell for each letter.
 #[derive(Clone, Copy)]
 pub(crate) struct Drawn<'a> {

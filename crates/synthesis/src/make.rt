@@ -73,7 +73,7 @@ pub(crate) fn make_table(course: &Course, table: &mut [u16], work: &mut [u16]) -
     ensures table { Made (loop_of course.now) (letters_of course.now) table.new result }
     ensures cleared { AllAre 0 work.new }
 {
-    let working = Working::new(work, course.size() as usize);
+    let working = Working::new(work, usize::from(course.size()));
     let answer = match weigh_drawn(course, table, working) {
         None => {
             table.fill(NO_ROW);

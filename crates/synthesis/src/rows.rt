@@ -7,6 +7,9 @@ use crate::source::Source;
 use letters::letter::Letter;
 use places::places::Places;
 
+// Places are widened by `as` where they index: the check shows that this loses nothing, and `usize::from` in each index was
+// tried: it is longer, and each proof then needs its clause.
+
 /// The place, if it is marked.
 pub(crate) fn if_marked(place: Option<u16>, marks: &[u16]) -> Option<u16>
     requires { (q : ℕ) → place ≡ Some q → q < length marks.now }

@@ -36,7 +36,7 @@ fn fits(
 {
     let at = place.last_offset();
     let size = property_size(place);
-    if size > MOST_SIZE as usize {
+    if size > usize::from(MOST_SIZE) {
         return Err(SynthesisFault::TooLarge(at));
     }
     if table.len() < size * (letters.len() + LAST_COLUMNS) {
@@ -63,7 +63,7 @@ fn fill_table<'a>(
     fits(place, letters, table, work)?;
     let course = Course::new(file, place, letters);
     match make_table(&course, table, work) {
-        Some(rows) => Ok(rows as usize),
+        Some(rows) => Ok(usize::from(rows)),
         None => Err(SynthesisFault::Stuck(place.last_offset())),
     }
 }

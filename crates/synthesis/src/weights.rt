@@ -9,6 +9,9 @@ use crate::source::Source;
 use letters::letter::{END, Letter, may_insert};
 use places::places::Places;
 
+// Places are widened by `as` where they index: the check shows that this loses nothing, and `usize::from` in each index was
+// tried: it is longer, and each proof then needs its clause.
+
 impl<P: Places> Source<'_, P> {
     /// One more than the number of the place with a row that the letter leads to.
     fn beyond(&self, letter: Letter, rows: &[u16], numbers: &[u16], place: u16) -> Option<u16>

@@ -17,6 +17,9 @@ use letters::alphabet::MOST_LETTERS;
 use letters::letter::{Letter, may_insert};
 use rules::table::{LAST_COLUMNS, NO_ROW};
 
+// Places are widened by `as` where they index: the check shows that this loses nothing, and `usize::from` in each index was
+// tried: it is longer, and each proof then needs its clause.
+
 /// The row of a place, as it is written.
 #[derive(Drop)]
 struct Row<'a> {

@@ -12,6 +12,7 @@ use property::sizes::MOST_SIZE;
 fn kept_place(place: u32) -> u16
     ensures { result ≡ min place most_size }
 {
+    // A bound and a cast as of a kept size, but one lower, since a place lies below its size.
     place.min(u32::from(MOST_SIZE)) as u16
 }
 

@@ -58,7 +58,7 @@ returns-in-Some c =
       fits = fit (goal.at.returns-in-Some c).In_ok-fits;
       free = unstranded c.args.file.now c.args.place.now c.args.alphabet.now c.requires c.make_table.new.table c.in-Some.rows made;
       alphabet = c.requires.letters;
-      table = table_of c.args.file.now c.args.place.now c.args.alphabet.now c.requires c.make_table.new.table c.in-Some.rows made;
+      table = rw c.from.ensures (table_of c.args.file.now c.args.place.now c.args.alphabet.now c.requires c.make_table.new.table c.in-Some.rows made);
       work = c.make_table.ensures.cleared;
     }
 

@@ -7,7 +7,8 @@ use letters::letter::Letter;
 mod methods;
 
 /// The letters that a property has declared so far.
-// A fixed array and a count, since the core uses no heap.
+// A fixed array and a count, since the core uses no heap. No `Alphabet`, which has tick and end: a type for both would
+// carry the facts of both.
 #[derive(Drop)]
 pub(crate) struct Declared {
     letters: [Letter; MOST_DECLARED],

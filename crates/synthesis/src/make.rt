@@ -29,9 +29,7 @@ fn weigh_rows<'a>(source: &Source<Drawn>, working: Working<'a>) -> Option<Weighe
     } = working;
     source.mark_live(owed);
     let count = source.number(owed, rows, order);
-    if !source.weigh(rows, owed, span) {
-        return None;
-    }
+    source.weigh(rows, owed, span)?;
     Some(Weighed {
         count,
         rows,

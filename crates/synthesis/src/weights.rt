@@ -1,4 +1,4 @@
-ghost use Rattle.std.specs.Prelude.{◌≡◌, ℕ, ◌<◌, ◌≤◌, true, false, length, slice_index, Some};
+ghost use Rattle.std.specs.Prelude.{◌≡◌, ℕ, ◌<◌, ◌≤◌, true, false, length, is_some, slice_index, Some};
 ghost use Rattle.rules.specs.Tabled.{no_row};
 ghost use Rattle.places.specs.Owing.{LoopSpan};
 ghost use Rattle.synthesis.specs.Marks.{Marked};
@@ -86,25 +86,23 @@ impl<P: Places> Source<'_, P> {
             .unwrap_or(0)
     }
 
-    /// Weighs each place with a row, in ascending order: what it owes and its span; answers whether each has an insertable way to an end.
-    pub(crate) fn weigh(&self, rows: &[u16], owed: &mut [u16], span: &mut [u16]) -> bool
+    /// Weighs each place with a row, in ascending order: what it owes and its span; none where one has no insertable way to
+    /// an end.
+    pub(crate) fn weigh(&self, rows: &[u16], owed: &mut [u16], span: &mut [u16]) -> Option<()>
         requires rowed { Rowed (P.Places.meaning self.now.places.now) rows.now }
         requires owed_len { length owed.old ≡ (P.Places.meaning self.now.places.now).size }
         requires span_len { length span.old ≡ (P.Places.meaning self.now.places.now).size }
-        ensures owes { result ≡ true → Owes (P.Places.meaning self.now.places.now) rows.now owed.new (P.Places.meaning self.now.places.now).size }
-        ensures spans { result ≡ true → Spans (P.Places.meaning self.now.places.now) rows.now span.new (P.Places.meaning self.now.places.now).size }
-        ensures stranded { result ≡ false → Stranded (P.Places.meaning self.now.places.now) }
+        ensures owes { is_some result ≡ true → Owes (P.Places.meaning self.now.places.now) rows.now owed.new (P.Places.meaning self.now.places.now).size }
+        ensures spans { is_some result ≡ true → Spans (P.Places.meaning self.now.places.now) rows.now span.new (P.Places.meaning self.now.places.now).size }
+        ensures stranded { is_some result ≡ false → Stranded (P.Places.meaning self.now.places.now) }
     {
         // A place is a number; its two numbers are worked out from those before them in the same slices.
         for place in 0..self.places.size() {
             if rows[place as usize] != 0 {
-                let Some(least) = self.owed_at(rows, owed, place) else {
-                    return false;
-                };
-                owed[place as usize] = least;
+                owed[place as usize] = self.owed_at(rows, owed, place)?;
                 span[place as usize] = self.span_at(rows, span, place);
             }
         }
-        true
+        Some(())
     }
 }

@@ -27,6 +27,7 @@ impl Declared {
     }
 
     /// One above the last letter, or 0 where there is none.
+    // A bound, and not an Option: it is the least letter that may be declared next.
     fn least(&self) -> usize
         ensures { result ≡ least_past (declared_in self.now) }
     {

@@ -13,6 +13,7 @@ use property::node::Node;
 use rules::table::NO_ROW;
 
 /// What a cell holds of an outcome: its place, or `NO_ROW`.
+// A number, and not an Option, since whole lines of cells are copied into the table's memory.
 fn cell_of(outcome: Outcome) -> u16
     ensures { result ≡ cell_of outcome }
 {

@@ -17,7 +17,8 @@ use Rattle.rules.proofs.Counting as counting
 use Rattle.rules.proofs.Positions as positions
 use Rattle.synthesis.specs.declared.fault.SynthesisFault.{SynthesisFault}
 use Rattle.synthesis.specs.declared.fault.SynthesisFault.TheVariants.{Property, TooLarge, TableMemory, WorkingMemory, Stuck}
-use Rattle.synthesis.specs.Courses.{Grounds}
+use Rattle.synthesis.specs.Fillable.{Fillable}
+use Rattle.synthesis.specs.Kept.{Grounds, loop_in}
 use Rattle.synthesis.specs.Fitting.{Read, fitting}
 use Rattle.synthesis.specs.Synthesis.{property_size, Checked, Fits, Refused, Left, Lent}
 
@@ -83,9 +84,9 @@ module _ (file : List ℕ) (place : Nodes) (alphabet : Alphabet) (rd : Read file
   sizes_are : sizes_in place ≡ sizes_of (nodes_in file place)
   sizes_are = rd.holds.sizes ∙ ap sizes_of (sym rd.holds.nodes)
 
-  pub grounds : (letters : List ℕ) → letters ≡ letters_of alphabet → Grounds file place letters
-  grounds letters e =
-      subst (λ ls. Grounds file place ls) (sym e) (record { sound = sound_in; sizes = sizes_are; few_letters = few alphabet })
+  pub grounds : Fillable (loop_in file place) (letters_of alphabet) → (letters : List ℕ) → letters ≡ letters_of alphabet → Grounds file place letters
+  grounds fillable letters e =
+      subst (λ ls. Grounds file place ls) (sym e) (record { sound = sound_in; sizes = sizes_are; few_letters = few alphabet; fillable = fillable })
 
   -- the size of the property, as it is kept
   kept_size : get_or (sizes_in place) (length (sizes_in place) - 1) 0 ≡ cut (property_size rd.parts)

@@ -1,7 +1,6 @@
 -- Letters in a list: where one stands, that they ascend, and that the end is not insertable.
 use Rattle.std.proofs.Common.{◌≡◌, ℕ, zero, suc, ◌<◌, ◌≤◌, true, eqb, leb, List, [], ◌∷◌, length, get_or, is_some as option_is_some, Some, sym, ap, ◌∙◌, subst, inl, inr, arith}
 use Rattle.std.proofs.lemmas.Bool.{false≢true, eqb-true, leb-true, and_parts, or_cases}
-use Rattle.letters.specs.Letters.{end, insertable}
 use Rattle.letters.specs.Alphabets.{among, ascending_from, position}
 use Rattle.letters.proofs.Positions.{position_among}
 use Rattle.rules.proofs.Follows.{is_some}

@@ -17,7 +17,7 @@ use Rattle.places.specs.Laps.{loop}
 use Rattle.places.specs.Loops.{Loop, LeadsToLive}
 use Rattle.places.proofs.Shown.{beginnings_lead, places_fair, places_sized}
 use Rattle.synthesis.specs.declared.course.Course.{Course}
-use Rattle.synthesis.specs.Courses.{letters_of, loop_of}
+use Rattle.synthesis.specs.Courses.{letters_of, loop_in, loop_of}
 use Rattle.synthesis.specs.Fillable.{Fillable}
 use Rattle.synthesis.specs.Made.{Made, MadeTable, StuckAt}
 use Rattle.synthesis.specs.Fitting.{Read}
@@ -50,6 +50,12 @@ module _ (file : List ℕ) (place : Nodes) (alphabet : Alphabet) (rd : Read file
     small = omega (arith, loop_sized, fits.small);
     ascending = subst (λ ls. ascending_from 0 ls ≡ true) rd.letters (ascends alphabet);
   }
+
+  -- the same of the place that holds the nodes
+  pub fillable_in : (room work at : ℕ) → Fits file room work rd.parts at → Fillable (loop_in file place) (declarations.letters_of alphabet)
+  fillable_in room work at fits =
+      subst (λ ns. Fillable (loop ns (last_node ns)) (declarations.letters_of alphabet)) (sym rd.holds.nodes)
+      (subst (λ ls. Fillable own_loop ls) (sym rd.letters) (fillable room work at fits))
 
   -- a place that is stuck is a stranded beginning
   pub stranded : StuckAt own_loop → Strands nodes
@@ -93,11 +99,6 @@ module _ (file : List ℕ) (place : Nodes) (alphabet : Alphabet) (rd : Read file
     course_loop =
         ap (λ ns. loop ns (last_node ns))
         (ap (λ f. nodes_in f course.checked.nodes.now) same_file ∙ ap (λ p. nodes_in file p) same_place ∙ rd.holds.nodes)
-
-    pub course_fillable : (room work at : ℕ) → Fits file room work rd.parts at → Fillable (loop_of course) (letters_of course)
-    course_fillable room work at fits =
-        subst (λ r. Fillable r (letters_of course)) (sym course_loop)
-        (subst (λ ls. Fillable own_loop ls) (sym course_letters) (fillable room work at fits))
 
     pub course_lettered : each_a_letter (letters_of course) ≡ true
     course_lettered = subst (λ ls. each_a_letter ls ≡ true) (sym same_letters) (each_letter alphabet)

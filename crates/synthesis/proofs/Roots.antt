@@ -43,13 +43,15 @@ module _ (c : Course) where
   root_course : course (nodes_of c) root ≡ round (loop_of c)
   root_course = course_loop (letters_of c) (nodes_of c) c.checked.grounds.sound root c.checked.grounds.sound.property
 
-  pub root_start : (loop_of c).size ≤ most_size → get_or c.starts root Dead ≡ At (loop_of c).boundary
-  root_start few = start_is c root root_within (let z = root_size in omega arith) ∙ ap (λ w. w.start) root_course
+  -- few places
+  root_few : size (nodes_of c) root ≤ most_size
+  root_few = let z = root_size in omega (arith, c.checked.grounds.fillable.small)
 
-  pub root_place : (p : ℕ) → (loop_of c).size ≤ most_size → p < (loop_of c).size → PlaceOf c root p
-  root_place p few h =
-      let z = root_size in
-      record { within = root_within; few = omega arith; inside = omega arith }
+  pub root_start : get_or c.starts root Dead ≡ At (loop_of c).boundary
+  root_start = start_is c root root_within root_few ∙ ap (λ w. w.start) root_course
+
+  pub root_place : (p : ℕ) → p < (loop_of c).size → PlaceOf c root p
+  root_place p h = record { within = root_within; few = root_few; inside = subst (λ k. p < k) root_size h }
 
   line_at : (p : ℕ) (out : List Outcome) → PlaceOf c root p → Row c root p out → (j : ℕ) → j < length (letters_of c)
       → row_named (cell_of (get_or out j Dead)) ≡ (loop_of c).next p (get_or (letters_of c) j 0)

@@ -4,14 +4,12 @@ use Rattle.property.specs.Nodes.{Node}
 use Rattle.property.specs.Placed.{nodes_in}
 use Rattle.property.specs.Sized.{most_size}
 use Rattle.property.specs.Sizes.{size}
-use Rattle.property.specs.Traces.{last_node}
-use Rattle.places.specs.Laps.{loop}
 use Rattle.places.specs.Loops.{Loop}
 use Rattle.places.specs.declared.outcome.Outcome.{Outcome}
 use Rattle.places.specs.declared.outcome.Outcome.TheVariants.{Dead}
 use Rattle.synthesis.specs.declared.course.CheckedFile.{CheckedFile}
 use Rattle.synthesis.specs.declared.course.Course.{Course}
-pub use Rattle.synthesis.specs.Kept.{Grounds, OnesBefore, OnesKept, StartsBefore, StartsKept, bit, course, round}
+pub use Rattle.synthesis.specs.Kept.{Grounds, OnesBefore, OnesKept, StartsBefore, StartsKept, bit, course, loop_in, round}
 
 abbrev pub checked_nodes : CheckedFile → List Node
 checked_nodes f = nodes_in f.file.now f.nodes.now
@@ -24,7 +22,7 @@ letters_of c = c.checked.letters.now
 
 -- the loop of the property
 abbrev pub loop_of : Course → Loop
-loop_of c = loop (nodes_of c) (last_node (nodes_of c))
+loop_of c = loop_in c.checked.file.now c.checked.nodes.now
 
 -- p is a place of a node whose size is kept as it is
 pub record PlaceOf (c : Course) (n p : ℕ) : Type 0 where

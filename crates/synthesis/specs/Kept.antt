@@ -6,11 +6,13 @@ use Rattle.property.specs.declared.place.Nodes.{Nodes}
 use Rattle.property.specs.Placed.{nodes_in, sizes_in, sizes_of}
 use Rattle.property.specs.Sizes.{size}
 use Rattle.property.specs.Sound.{Sound}
+use Rattle.property.specs.Traces.{last_node}
 use Rattle.places.specs.Laps.{loop}
 use Rattle.places.specs.Loops.{Loop}
 use Rattle.places.specs.Walks.{Walk, walk}
 use Rattle.places.specs.declared.outcome.Outcome.{Outcome}
 use Rattle.places.specs.declared.outcome.Outcome.TheVariants.{Dead, At}
+use Rattle.synthesis.specs.Fillable.{Fillable}
 use Rattle.synthesis.specs.Outcomes.{Like, onto, leads_on}
 
 -- a loop as a walk that is never done
@@ -21,11 +23,16 @@ round r = record { size = r.size; start = At r.boundary; step = λ p l. onto (r.
 abbrev pub course : List Node → ℕ → Walk
 course nodes n = cond (is_loop (node nodes n)) (round (loop nodes n)) (walk nodes n)
 
--- what a course is made over: a place with the sound nodes of a file, and the alphabet's letters
+-- the loop of the property
+abbrev pub loop_in : List ℕ → Nodes → Loop
+loop_in file place = loop (nodes_in file place) (last_node (nodes_in file place))
+
+-- what a course is made over: a place with the sound nodes of a file, and the alphabet's letters, of which a table can be filled
 pub record Grounds (file : List ℕ) (place : Nodes) (letters : List ℕ) : Type 0 where
   pub sound : Sound letters (nodes_in file place)
   pub sizes : sizes_in place ≡ sizes_of (nodes_in file place)
   pub few_letters : length letters ≤ most_letters
+  pub fillable : Fillable (loop_in file place) letters
 
 -- where the walks of the nodes before n start
 abbrev pub StartsBefore : List Node → List Outcome → ℕ → Type 0

@@ -13,9 +13,11 @@ use Rattle.property.specs.declared.place.Nodes.{Nodes}
 use Rattle.property.specs.Placed.{nodes_in}
 use Rattle.property.specs.Sized.{most_size}
 use Rattle.property.specs.Sound.{Sound, LoopEarlier, PlainEarlier, SoundBranches, SoundNode}
+use Rattle.places.specs.Loops.{Fair, Loop}
 use Rattle.places.specs.declared.outcome.Outcome.{Outcome}
 use Rattle.places.specs.declared.outcome.Outcome.TheVariants.{Dead, Done, At}
-use Rattle.synthesis.specs.Kept.{Grounds, StartsKept, OnesKept}
+use Rattle.synthesis.specs.Fillable.{Fillable}
+use Rattle.synthesis.specs.Kept.{Grounds, StartsKept, OnesKept, loop_in}
 use Rattle.synthesis.specs.Outcomes.{Like}
 
 both : {A B : Type 0} → IsProp A → IsProp B → IsProp (A × B)
@@ -51,11 +53,27 @@ sound_prop alphabet nodes a b = λ i. record {
   property = Bool-set _ _ a.property b.property i;
 }
 
+fair_prop : (r : Loop) (letters : List ℕ) → IsProp (Fair r letters)
+fair_prop r letters a b = λ i. record {
+  starts = le_prop a.starts b.starts i;
+  stays = Π_prop (λ p. Π_prop (λ l. Π_prop (λ q. Π_prop (λ h. Π_prop (λ e. le_prop))))) a.stays b.stays i;
+  lettered = Π_prop (λ p. Π_prop (λ l. Π_prop (λ q. Π_prop (λ h. Π_prop (λ e. Bool-set _ _))))) a.lettered b.lettered i;
+  falls = Π_prop (λ p. Π_prop (λ l. Π_prop (λ q. Π_prop (λ h. Π_prop (λ d. Π_prop (λ e. le_prop)))))) a.falls b.falls i;
+}
+
+fillable_prop : (r : Loop) (letters : List ℕ) → IsProp (Fillable r letters)
+fillable_prop r letters a b = λ i. record {
+  fair = fair_prop r letters a.fair b.fair i;
+  small = le_prop a.small b.small i;
+  ascending = Bool-set _ _ a.ascending b.ascending i;
+}
+
 pub Grounds-prop : (file : List ℕ) (place : Nodes) (letters : List ℕ) → IsProp (Grounds file place letters)
 Grounds-prop file place letters a b = λ i. record {
   sound = sound_prop letters (nodes_in file place) a.sound b.sound i;
   sizes = List-set ℕ_set _ _ a.sizes b.sizes i;
   few_letters = le_prop a.few_letters b.few_letters i;
+  fillable = fillable_prop (loop_in file place) letters a.fillable b.fillable i;
 }
 
 -- an outcome as a number

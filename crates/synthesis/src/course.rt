@@ -14,7 +14,8 @@ pub(crate) mod outcomes;
 pub(crate) mod row;
 pub(crate) mod starts;
 
-/// A file that passed the checks, with the place of its nodes and the letters of its alphabet.
+/// A file that passed the checks and of which a table can be filled, with the place of its nodes and the letters of its
+/// alphabet.
 #[derive(Drop)]
 pub(crate) struct CheckedFile<'a> {
     pub(crate) file: &'a [u8],

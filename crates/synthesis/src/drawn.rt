@@ -1,6 +1,5 @@
 ghost use Rattle.std.specs.Prelude.{◌≡◌, ◌*◌, ◌≤◌, true, length, unwrap_or};
 ghost use Rattle.letters.specs.Alphabets.{ascending_from, most_letters};
-ghost use Rattle.property.specs.Sized.{most_size};
 ghost use Rattle.rules.specs.Tabled.{no_row, row_named, width};
 ghost use Rattle.synthesis.specs.Courses.{letters_of, loop_of};
 ghost use Rattle.synthesis.specs.Drawn.{Columned, Lines, drawn};
@@ -87,8 +86,7 @@ pub(crate) fn columns_of(letters: &[Letter]) -> [Option<u8>; LETTER_BOUND]
 
 /// Draws the places of the property's loop.
 pub(crate) fn draw(course: &Course, table: &mut [u16])
-    requires few { (loop_of course.now).size ≤ most_size }
-    requires room { (loop_of course.now).size * width (letters_of course.now) ≤ length table.old }
+    requires { (loop_of course.now).size * width (letters_of course.now) ≤ length table.old }
     ensures { Lines (loop_of course.now) (letters_of course.now) table.new (loop_of course.now).size }
 {
     let letters = course.checked.letters.len();

@@ -4,7 +4,6 @@ ghost use Rattle.rules.specs.Tabled.{width};
 ghost use Rattle.synthesis.specs.Courses.{letters_of, loop_of};
 ghost use Rattle.synthesis.specs.Drawn.{drawn};
 ghost use Rattle.synthesis.specs.Made.{Made};
-ghost use Rattle.synthesis.specs.Fillable.{Fillable};
 ghost use Rattle.synthesis.specs.Table.{AllAre};
 ghost use Rattle.synthesis.specs.Weighed.{Weighing};
 
@@ -41,7 +40,6 @@ fn weigh_rows<'a>(source: &Source<Drawn>, working: Working<'a>) -> Option<Weighe
 
 /// Draws the places of the course into the table, then numbers and weighs the rows.
 fn weigh_drawn<'a>(course: &Course, table: &mut [u16], working: Working<'a>) -> Option<Weighed<'a>>
-    requires fillable { Fillable (loop_of course.now) (letters_of course.now) }
     requires room { (loop_of course.now).size * width (letters_of course.now) ≤ length table.old }
     requires size { working.size ≡ (loop_of course.now).size }
     ensures { Weighing (loop_of course.now) result }
@@ -64,7 +62,6 @@ fn weigh_drawn<'a>(course: &Course, table: &mut [u16], working: Working<'a>) -> 
 
 /// Fills the table, and clears the working memory; answers the number of rows, or none where a place is stranded.
 pub(crate) fn make_table(course: &Course, table: &mut [u16], work: &mut [u16]) -> Option<u16>
-    requires fillable { Fillable (loop_of course.now) (letters_of course.now) }
     requires each_a_letter { each_a_letter (letters_of course.now) ≡ true }
     requires room { (loop_of course.now).size * width (letters_of course.now) ≤ length table.old }
     requires work { 4 * (loop_of course.now).size ≤ length work.old }

@@ -1,9 +1,7 @@
 ghost use Rattle.std.specs.Prelude.{◌≡◌, ℕ, ◌+◌, ◌*◌, ◌<◌, ◌≤◌, true, false, length, Some, ◌≢◌, slice_index, unwrap_or};
-ghost use Rattle.letters.specs.Alphabets.{most_letters};
 ghost use Rattle.rules.specs.Tabled.{no_row, width};
 ghost use Rattle.synthesis.specs.Courses.{letters_of, loop_of};
 ghost use Rattle.synthesis.specs.Drawn.{Line};
-ghost use Rattle.synthesis.specs.Fillable.{Fillable};
 ghost use Rattle.synthesis.specs.Marks.{Marked, onward};
 ghost use Rattle.synthesis.specs.Table.{Cell, Entry, Tells};
 ghost use Rattle.synthesis.specs.Weighed.{AllWeighed, lowers};
@@ -28,8 +26,6 @@ struct Row<'a> {
     place: u16,
     /// The place that each letter leads to, or `NO_ROW`.
     line: [u16; MOST_LETTERS],
-    ghost few: { length (letters_of course.now) ≤ most_letters },
-    ghost fillable: { Fillable (loop_of course.now) (letters_of course.now) },
     ghost marked: { Marked weighed.now.rows.now place },
     ghost leads: { Line (loop_of course.now) (letters_of course.now) place line },
 }
@@ -93,7 +89,6 @@ impl Row<'_> {
 
 /// The row of a place that has one.
 fn row_of<'a>(course: &'a Course<'a>, weighed: &'a Weighed<'a>, place: u16) -> Row<'a>
-    requires fillable { Fillable (loop_of course.now) (letters_of course.now) }
     requires inside { place < (loop_of course.now).size }
     requires marked { Marked weighed.now.rows.now place }
     ensures course { result.course.now ≡ course.now }
@@ -112,7 +107,6 @@ fn row_of<'a>(course: &'a Course<'a>, weighed: &'a Weighed<'a>, place: u16) -> R
 
 /// Writes the whole table memory.
 pub(crate) fn write<'a>(course: &'a Course<'a>, weighed: &'a Weighed<'a>, table: &mut [u16])
-    requires fillable { Fillable (loop_of course.now) (letters_of course.now) }
     requires weighs { AllWeighed (loop_of course.now) weighed.now }
     requires room { (loop_of course.now).size * width (letters_of course.now) ≤ length table.old }
     ensures { Tells (loop_of course.now) (letters_of course.now) table.new weighed.now.count }

@@ -20,12 +20,9 @@ use records::body::{BRANCH_BYTES, two_bytes};
 pub(crate) fn target(body: &[u8], letter: Letter) -> Option<usize>
     ensures { result ≡ target (branches body.now) letter }
 {
-    for branch in body.chunks_exact(BRANCH_BYTES) {
-        if branch[0] == letter {
-            return Some(two_bytes(branch[1], branch[2]));
-        }
-    }
-    None
+    body.chunks_exact(BRANCH_BYTES)
+        .find(|branch| branch[0] == letter)
+        .map(|branch| two_bytes(branch[1], branch[2]))
 }
 
 /// Whether the bit is set.

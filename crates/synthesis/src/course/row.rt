@@ -1,5 +1,4 @@
-ghost use Rattle.std.specs.Prelude.{◌≡◌, ◌+◌, ◌<◌, ◌≤◌, min};
-ghost use Rattle.property.specs.Sized.{most_size};
+ghost use Rattle.std.specs.Prelude.{◌≡◌, ◌<◌};
 ghost use Rattle.property.specs.Traces.{last_node};
 ghost use Rattle.synthesis.specs.Courses.{PlaceOf, Row, letters_of, loop_of, nodes_of};
 ghost use Rattle.synthesis.specs.Drawn.{Line, cell_of};
@@ -78,16 +77,15 @@ impl Course<'_> {
         self.checked.count() - 1
     }
 
-    /// How many places the property has, as its size is kept.
+    /// How many places the property has.
     pub(crate) fn size(&self) -> u16
-        ensures { result ≡ min (loop_of self.now).size (most_size + 1) }
+        ensures { result ≡ (loop_of self.now).size }
     {
         self.checked.size_at(self.root())
     }
 
     /// The boundary of the property's loop.
     pub(crate) fn boundary(&self) -> u16
-        requires { (loop_of self.now).size ≤ most_size }
         ensures { result ≡ (loop_of self.now).boundary }
     {
         match self.starts[self.root()] {
@@ -98,8 +96,7 @@ impl Course<'_> {
 
     /// The place that each letter leads to from a place of the property's loop, or `NO_ROW`.
     pub(crate) fn line(&self, place: u16, cells: &mut [u16; MOST_LETTERS])
-        requires few { (loop_of self.now).size ≤ most_size }
-        requires inside { place < (loop_of self.now).size }
+        requires { place < (loop_of self.now).size }
         ensures { Line (loop_of self.now) (letters_of self.now) place cells.new }
     {
         let mut out = [Outcome::Dead; MOST_LETTERS];

@@ -16,7 +16,7 @@ loop-place-preserved c =
     let line = c.line.new.cells in
     let copied = c.copy_from_slice.new.self in
     let h : p < (loop_of c.args.course.now).size = omega (arith, c.size-place-end.ensures) in
-    let room : a + n ≤ length c.loop-place.table = omega (arith, mul-add-lt p (width letters) n (loop_of c.args.course.now).size h (omega arith), c.requires.room) in
+    let room : a + n ≤ length c.loop-place.table = omega (arith, mul-add-lt p (width letters) n (loop_of c.args.course.now).size h (omega arith), c.requires) in
     let same : copied ≡ take n line = c.copy_from_slice.ensures.after in
     let few : n ≤ length line = omega (arith, c.args.course.now.checked.grounds.few_letters) in
     lines_more (loop_of c.args.course.now) letters c.loop-place.table _ line p c.loop-place.invariant c.line.ensures

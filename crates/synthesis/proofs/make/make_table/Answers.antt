@@ -15,7 +15,7 @@ returns-clause-table c = elim c.match-weigh_drawn.branch [
       let r = loop_of c.args.course.now in
       let letters = letters_of c.args.course.now in
       rw (w.table-is, w.answer-is) (record {
-        ruled = filled_tables_are_rules r letters w.write.new.table w.in-Some.weighed.count c.requires.fillable c.requires.each_a_letter w.write.ensures;
+        ruled = filled_tables_are_rules r letters w.write.new.table w.in-Some.weighed.count c.args.course.now.checked.grounds.fillable c.requires.each_a_letter w.write.ensures;
         own = own r letters w.write.new.table w.in-Some.weighed.count w.write.ensures;
         rest = w.write.ensures.rest;
       })

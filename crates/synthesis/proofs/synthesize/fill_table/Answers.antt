@@ -3,7 +3,7 @@ use Rattle.std.proofs.lemmas.Result.{err_from_is_err_and}
 use Rattle.synthesis.specs.Synthesis.{Fits, lent}
 use Rattle.synthesis.proofs.Answered.{exits}
 use Rattle.synthesis.proofs.Fitted.{grounds, fits_in, refuses}
-use Rattle.synthesis.proofs.Made.{course_fillable, course_lettered, course_room, course_work, course_made, table_of, stranded, unstranded}
+use Rattle.synthesis.proofs.Made.{fillable_in, course_lettered, course_room, course_work, course_made, table_of, stranded, unstranded}
 use Rattle.synthesis.proofs.synthesize.fill_table.Goals as goal
 use Rattle.synthesis.proofs.synthesize.fill_table.Goals.{In_ok-fits}
 
@@ -17,9 +17,6 @@ returns-in_err-fits c =
     refl (ap length c.letters-letters.ensures) refl
     c.in_err-fits.field-0.0 c.in_err-fits.ensures all)
 
-pub new-course-requires : goal.new-course-requires
-new-course-requires c = grounds c.args.file.now c.args.place.now c.args.alphabet.now c.requires c.letters-letters.result.now c.letters-letters.ensures
-
 -- what the tests leave
 fit : (c : In_ok-fits) → Fits c.args.file.now (length c.args.table.now) (length c.args.work.now) c.requires.parts c.args.place.now.last
 fit c =
@@ -27,14 +24,17 @@ fit c =
     _ (length c.letters-letters.result.now) (length c.args.table.now) (length c.args.work.now) c.args.place.now.last
     refl (ap length c.letters-letters.ensures) refl c.in_ok-fits.ensures
 
+pub new-course-requires : goal.new-course-requires
+new-course-requires c =
+    grounds c.args.file.now c.args.place.now c.args.alphabet.now c.requires
+    (fillable_in c.args.file.now c.args.place.now c.args.alphabet.now c.requires _ _ _ (fit (goal.at.new-course-requires c).In_ok-fits))
+    c.letters-letters.result.now c.letters-letters.ensures
+
 pub make_table-requires : goal.make_table-requires
 make_table-requires c =
     let fits = fit (goal.at.make_table-requires c).In_ok-fits in
     let letters = c.new-course.ensures.letters ∙ c.letters-letters.ensures in
     record {
-      fillable =
-          course_fillable c.args.file.now c.args.place.now c.args.alphabet.now c.requires
-          c.new-course.result c.new-course.ensures.file c.new-course.ensures.nodes letters _ _ _ fits;
       each_a_letter =
           course_lettered c.args.file.now c.args.place.now c.args.alphabet.now c.requires
           c.new-course.result c.new-course.ensures.file c.new-course.ensures.nodes letters;

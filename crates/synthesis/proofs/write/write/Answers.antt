@@ -57,7 +57,7 @@ returns c =
     let written : RowsWritten r letters w.rows.now w.order.now c.loop-i.table w.count = subst (λ (i : ℕ). RowsWritten r letters w.rows.now w.order.now c.loop-i.table i) all c.loop-i.invariant in
     let rest = c.fill.new.self in
     let filled : length rest + w.count * width letters ≡ length c.loop-i.table = omega (arith, c.fill.auto.self) in
-    tells r letters w.rows.now w.order.now w.count c.requires.fillable n _
+    tells r letters w.rows.now w.order.now w.count c.args.course.now.checked.grounds.fillable n _
     (omega (arith, c.requires.room, length_part c.loop-i.table rest (w.count * width letters) (length c.loop-i.table - w.count * width letters) (omega arith) (omega arith)))
     (rows_kept r letters w.rows.now w.order.now c.loop-i.table w.count written within rest _)
     (λ k h l. rest_filled r letters w.rows.now w.order.now c.loop-i.table w.count written within rest _ filled (all_filled rest _ 65535 (c.fill.ensures.after (λ y e. search rules))) k h (omega (arith, length_part c.loop-i.table rest (w.count * width letters) (length c.loop-i.table - w.count * width letters) (omega arith) (omega arith))))

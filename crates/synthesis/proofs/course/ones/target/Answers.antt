@@ -1,44 +1,31 @@
-use Rattle.std.proofs.Common.{◌≡◌, ℕ, ◌<◌, Bool, cond, eqb, List, ◌++◌, length, get_or, Some, None, sym, ap, ◌∙◌, arith}
-use Rattle.std.proofs.lemmas.Bool.{eq-eqb, ne_eqb}
-use Rattle.records.specs.Records.{two_bytes}
+use Rattle.std.proofs.Common.{◌≡◌, ℕ, Bool, true, false, cond, eqb, List, [], ◌∷◌, option_map, Some, None, Option, refl, ap, ◌∙◌, rules, tests}
+use Rattle.std.specs.List.{find}
+use Rattle.std.specs.Option.{IsSomeAnd, MatchOption}
+use Rattle.std.proofs.lemmas.Iterator.Search.{find_from_yields_List}
 use Rattle.property.specs.Nodes.{branches}
-use Rattle.property.proofs.Branching.{one_branch, no_branch}
+use Rattle.property.proofs.Branching.{read, branch_chunks}
 use Rattle.places.specs.Walks.{target}
 use Rattle.synthesis.proofs.course.ones.target.Goals as goal
 
-target_step : (rest x left : List ℕ) (l : ℕ) → rest ≡ x ++ left → length x ≡ 3 → target (branches rest) l ≡ cond (eqb (get_or x 0 0) l) (Some (two_bytes x 1)) (target (branches left) l)
+-- what is read of the first branch that passes
+second : (t : Bool) (b : ℕ × ℕ) (o : Option (ℕ × ℕ)) → option_map (λ (b : ℕ × ℕ). b.1) (cond t (Some b) o) ≡ cond t (Some b.1) (option_map (λ (b : ℕ × ℕ). b.1) o)
+second true b o = refl
+second false b o = refl
+
+-- the node that the first branch with the letter names
+first_named : (l : ℕ) (bs : List (ℕ × ℕ)) → option_map (λ (b : ℕ × ℕ). b.1) (find (λ (b : ℕ × ℕ). eqb b.0 l) bs) ≡ target bs l
 unfolding target
-target_step rest x left l e h = ap (λ bs. target bs l) (one_branch rest x left e h)
+first_named l [] = refl
+first_named l (b ∷ bs) = second (eqb b.0 l) b (find (λ (b : ℕ × ℕ). eqb b.0 l) bs) ∙ ap (cond (eqb b.0 l) (Some b.1)) (first_named l bs)
 
-target_end : (rest : List ℕ) (l : ℕ) → length rest < 3 → target (branches rest) l ≡ None
-unfolding target
-target_end rest l h = ap (λ bs. target bs l) (no_branch rest h)
-
-pub returns-then-branch-letter : goal.returns-then-branch-letter
-returns-then-branch-letter c =
-    let s = c.in-Some.ensures.steps in
-    let left = c.next.new.self.rest.now in
-    let x = c.in-Some.branch.now in
-    sym (c.loop-branch.invariant.3
-    ∙ target_step c.loop-branch.branch-iterator.rest.now x left c.args.letter s.1.0 (s.1.1 ∙ c.loop-branch.invariant.2)
-    ∙ ap (λ (t : Bool). cond t (Some (two_bytes x 1)) (target (branches left) c.args.letter)) (eq-eqb (get_or x 0 0) c.args.letter c.if-branch-letter.true)
-    ∙ ap Some (sym c.two_bytes.ensures))
-
-pub loop-branch-preserved : goal.loop-branch-preserved
-loop-branch-preserved c =
-    let s = c.in-Some.ensures.steps in
-    let left = c.next.new.self.rest.now in
-    let x = c.in-Some.branch.now in
-    let g = c.in-Some.ensures.goes.on c.loop-branch.invariant.1 in (
-      g.0,
-      g.1,
-      s.0 ∙ c.loop-branch.invariant.2,
-      c.loop-branch.invariant.3
-          ∙ target_step c.loop-branch.branch-iterator.rest.now x left c.args.letter s.1.0 (s.1.1 ∙ c.loop-branch.invariant.2)
-          ∙ ap (λ (t : Bool). cond t (Some (two_bytes x 1)) (target (branches left) c.args.letter)) (ne_eqb (get_or x 0 0) c.args.letter c.if-branch-letter.false),
-    )
+-- a `map` whose closure gives the second of what v reads
+mapped : {A : Type 0} (v : A → ℕ × ℕ) (P : A → ℕ → Type 0) (o : Option A) (r : Option ℕ) → ((x : A) (n : ℕ) → P x n → n ≡ (v x).1) → MatchOption o (r ≡ None) (λ x. IsSomeAnd r (P x)) → r ≡ option_map (λ (b : ℕ × ℕ). b.1) (option_map v o)
+mapped v P None r given e = e
+mapped v P (Some x) (Some n) given h = ap Some (given x n h)
+mapped v P (Some x) None given h = absurd h
 
 pub returns : goal.returns
 returns c =
-    let s = c.in-None.ensures.steps in
-    sym (c.loop-branch.invariant.3 ∙ target_end c.loop-branch.branch-iterator.rest.now c.args.letter (omega (arith, s.1.0, c.loop-branch.invariant.2)))
+    mapped read _ c.find.result c.map.result (λ x n h. search rules) c.map.ensures.cases
+    ∙ ap (option_map (λ (b : ℕ × ℕ). b.1)) (find_from_yields_List (λ (b : ℕ × ℕ). eqb b.0 c.args.letter) _ _ _ c.find.ensures.ran (branch_chunks c.args.body.now c.chunks_exact.ensures.rest c.chunks_exact.ensures.size) (λ x b q k. search (rules, tests)))
+    ∙ first_named c.args.letter (branches c.args.body.now)

@@ -21,4 +21,4 @@ overflow_add-owed c =
     let w = c.requires.weighs in
     let on = marked_some rows ((loop_of s.course.now).next s.place _) q (sym c.onward.ensures ∙ c.in-Some.is) in
     let h = marked_within rows q on.1 in
-    omega (arith, h, w.numbered.rowed.long, w.owes.low q (omega (arith, w.numbered.rowed.long)) on.1, s.fillable.small)
+    omega (arith, h, w.numbered.rowed.long, w.owes.low q (omega (arith, w.numbered.rowed.long)) on.1, s.course.now.checked.grounds.fillable.small)

@@ -12,17 +12,15 @@ use places::places::Places;
 
 /// The place, if it is marked.
 pub(crate) fn if_marked(place: Option<u16>, marks: &[u16]) -> Option<u16>
-    requires { (q : ℕ) → place ≡ Some q → q < length marks.now }
     ensures { result ≡ if_marked marks.now place }
 {
-    place.filter(|q| marks[*q as usize] != 0)
+    place.filter(|q| marks.get(*q as usize).is_some_and(|mark| *mark != 0))
 }
 
 impl<P: Places> Source<'_, P> {
     /// The marked place that a letter leads to from a place.
     pub(crate) fn onward(&self, letter: Letter, marks: &[u16], place: u16) -> Option<u16>
-        requires marks_len { length marks.now ≡ (P.Places.meaning self.now.places.now).size }
-        requires inside { place < (P.Places.meaning self.now.places.now).size }
+        requires { place < (P.Places.meaning self.now.places.now).size }
         ensures { result ≡ onward (P.Places.meaning self.now.places.now) marks.now place letter }
     {
         if_marked(self.places.following(place, letter), marks)
@@ -30,8 +28,7 @@ impl<P: Places> Source<'_, P> {
 
     /// Whether some letter leads from a place to a marked one.
     fn leads_to(&self, marks: &[u16], place: u16) -> bool
-        requires marks_len { length marks.now ≡ (P.Places.meaning self.now.places.now).size }
-        requires inside { place < (P.Places.meaning self.now.places.now).size }
+        requires { place < (P.Places.meaning self.now.places.now).size }
         ensures yes { result ≡ true → Into (P.Places.meaning self.now.places.now) marks.now place }
         ensures nay { result ≡ false → Into (P.Places.meaning self.now.places.now) marks.now place → ⊥ }
     {

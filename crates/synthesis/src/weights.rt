@@ -15,7 +15,6 @@ use places::places::Places;
 impl<P: Places> Source<'_, P> {
     /// One more than the number of the place with a row that the letter leads to.
     fn beyond(&self, letter: Letter, rows: &[u16], numbers: &[u16], place: u16) -> Option<u16>
-        requires rows_len { length rows.now ≡ (P.Places.meaning self.now.places.now).size }
         requires inside { place < (P.Places.meaning self.now.places.now).size }
         requires numbers_len { length numbers.now ≡ length rows.now }
         requires small { (q : ℕ) → (P.Places.meaning self.now.places.now).next place letter ≡ Some q → Marked rows.now q → slice_index numbers.now q < no_row }
@@ -27,7 +26,6 @@ impl<P: Places> Source<'_, P> {
 
     /// What the place owes by way of the letter, if it is insertable and leads to a place with a row.
     fn owed_by(&self, letter: Letter, rows: &[u16], owed: &[u16], place: u16) -> Option<u16>
-        requires rows_len { length rows.now ≡ (P.Places.meaning self.now.places.now).size }
         requires inside { place < (P.Places.meaning self.now.places.now).size }
         requires owed_len { length owed.now ≡ length rows.now }
         requires small { (q : ℕ) → Inserts (P.Places.meaning self.now.places.now) rows.now place letter q → slice_index owed.now q < no_row }
@@ -58,7 +56,6 @@ impl<P: Places> Source<'_, P> {
 
     /// The span of the place by way of the letter, if it is not the end and leads to a place with a row.
     fn span_by(&self, letter: Letter, rows: &[u16], span: &[u16], place: u16) -> Option<u16>
-        requires rows_len { length rows.now ≡ (P.Places.meaning self.now.places.now).size }
         requires inside { place < (P.Places.meaning self.now.places.now).size }
         requires span_len { length span.now ≡ length rows.now }
         requires small { (q : ℕ) → GoesOn (P.Places.meaning self.now.places.now) rows.now place letter q → slice_index span.now q < no_row }

@@ -33,8 +33,7 @@ struct Row<'a> {
 impl Row<'_> {
     /// The place with a row that the letter at an index leads to.
     fn onward(&self, j: usize) -> Option<u16>
-        requires weighs { AllWeighed (loop_of self.now.course.now) self.now.weighed.now }
-        requires within { j < length (letters_of self.now.course.now) }
+        requires { j < length (letters_of self.now.course.now) }
         ensures { result ≡ onward (loop_of self.now.course.now) self.now.weighed.now.rows.now self.now.place (slice_index (letters_of self.now.course.now) j) }
     {
         if_marked(named(self.line[j]), self.weighed.rows)
@@ -42,8 +41,7 @@ impl Row<'_> {
 
     /// The row that the letter at an index leads to.
     fn next(&self, j: usize) -> Option<u16>
-        requires weighs { AllWeighed (loop_of self.now.course.now) self.now.weighed.now }
-        requires within { j < length (letters_of self.now.course.now) }
+        requires { j < length (letters_of self.now.course.now) }
         ensures { Cell (loop_of self.now.course.now) self.now.weighed.now.rows.now self.now.place (slice_index (letters_of self.now.course.now) j) (unwrap_or result no_row) }
     {
         let next = self.onward(j)?;

@@ -12,4 +12,4 @@ returns-clause-nay g c e i =
     let letters = c.args.self.now.letters.now in
     let test = λ (l : ℕ). is_some (onward r c.args.marks.now c.args.place l) in
     let x = any_from_yields_List test _ _ _ c.any.ensures.ran (YieldsList-from_slice letters cc) (λ x b q k. search (rules, tests)) in
-    into_none r letters c.args.marks.now c.args.place i.0 i.1 (sym x ∙ e) (c.args.self.now.fillable.fair.lettered c.args.place i.0 i.1 c.requires.inside i.2) i.2 i.3
+    into_none r letters c.args.marks.now c.args.place i.0 i.1 (sym x ∙ e) (c.args.self.now.fillable.fair.lettered c.args.place i.0 i.1 c.requires i.2) i.2 i.3

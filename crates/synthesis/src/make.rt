@@ -38,6 +38,8 @@ fn weigh_rows<'a>(source: &Source<Drawn>, working: Working<'a>) -> Option<Weighe
     })
 }
 
+// That the table has room is asked of course and table, which no value holds together; `write` writes into what was drawn.
+
 /// Draws the places of the course into the table, then numbers and weighs the rows.
 fn weigh_drawn<'a>(course: &Course, table: &mut [u16], working: Working<'a>) -> Option<Weighed<'a>>
     requires room { (loop_of course.now).size * width (letters_of course.now) ≤ length table.old }

@@ -3,6 +3,8 @@ ghost use Rattle.synthesis.specs.Fillable.{Fillable};
 use letters::letter::Letter;
 use places::places::Places;
 
+// A place is a number, and its bound that of the places of one loop, so the methods ask for it.
+
 /// What a table is filled from: fair places, and the letters that lead from one to another.
 #[derive(Drop)]
 pub(crate) struct Source<'a, P: Places> {

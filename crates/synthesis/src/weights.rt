@@ -9,6 +9,8 @@ use crate::source::Source;
 use letters::letter::{END, Letter, may_insert};
 use places::places::Places;
 
+// What the rows are is no ghost field: such a field holds only facts with one proof, and this one has a list that leads to
+// each place, which may be one of several.
 impl<P: Places> Source<'_, P> {
     /// One more than the number of the place with a row that the letter leads to.
     fn beyond(&self, letter: Letter, rows: &[u16], numbers: &[u16], place: u16) -> Option<u16>

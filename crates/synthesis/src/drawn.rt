@@ -1,5 +1,4 @@
-ghost use Rattle.std.specs.Prelude.{◌≡◌, ◌*◌, ◌≤◌, true, length, unwrap_or};
-ghost use Rattle.letters.specs.Alphabets.{ascending_from, most_letters};
+ghost use Rattle.std.specs.Prelude.{◌≡◌, ◌*◌, ◌≤◌, length, unwrap_or};
 ghost use Rattle.rules.specs.Tabled.{no_row, row_named, width};
 ghost use Rattle.synthesis.specs.Courses.{letters_of, loop_of};
 ghost use Rattle.synthesis.specs.Drawn.{Columned, Lines, drawn};
@@ -72,13 +71,11 @@ impl Places for Drawn<'_> {
 }
 
 /// The column of each letter.
-pub(crate) fn columns_of(letters: &[Letter]) -> [Option<u8>; LETTER_BOUND]
-    requires few { length letters.now ≤ most_letters }
-    requires ascending { ascending_from 0 letters.now ≡ true }
-    ensures { Columned letters.now result (length letters.now) }
+pub(crate) fn columns_of(course: &Course) -> [Option<u8>; LETTER_BOUND]
+    ensures { Columned (letters_of course.now) result (length (letters_of course.now)) }
 {
     let mut columns = [None; LETTER_BOUND];
-    for (j, &letter) in letters.iter().enumerate() {
+    for (j, &letter) in course.checked.letters.iter().enumerate() {
         columns[letter as usize] = Some(j as u8);
     }
     columns

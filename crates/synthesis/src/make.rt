@@ -47,7 +47,7 @@ fn weigh_drawn<'a>(course: &Course, table: &mut [u16], working: Working<'a>) -> 
     ensures { Weighing (loop_of course.now) result }
 {
     draw(course, table);
-    let columns = columns_of(course.checked.letters);
+    let columns = columns_of(course);
     let places = Drawn {
         cells: table,
         columns: &columns,

@@ -1,5 +1,4 @@
 ghost use Rattle.std.specs.Prelude.{◌≡◌, ℕ, ◌<◌, true, false, length, Some};
-ghost use Rattle.std.specs.List.{list_any};
 ghost use Rattle.synthesis.specs.Marks.{Marked, Into, Marking, Exact, if_marked, onward, zeros};
 ghost use Rattle.synthesis.specs.Numbers.{Numbered, Followed, Grown, Rows};
 

@@ -36,8 +36,6 @@ impl<'a> Working<'a> {
 }
 
 /// The rows, and what weighs on the places that have one: each slice but `order` has a number for each place.
-// That the rows and what weighs on them are right is asked for by clauses: what a place owes has the list that shows it, of
-// which there may be several, and a ghost field has one proof at most. So it is with `Rowed`, too.
 #[derive(Clone, Copy)]
 pub(crate) struct Weighed<'a> {
     /// How many rows there are.

@@ -10,7 +10,8 @@ use letters::letter::{END, Letter, may_insert};
 use places::places::Places;
 
 // Places are widened by `as` where they index: the check shows that this loses nothing, and `usize::from` in each index was
-// tried: it is longer, and each proof then needs its clause.
+// tried: it is longer, and each proof then needs its clause. What the rows are is no ghost field: such a field holds only
+// facts with one proof, and this one has a list that leads to each place, which may be one of several.
 
 impl<P: Places> Source<'_, P> {
     /// One more than the number of the place with a row that the letter leads to.

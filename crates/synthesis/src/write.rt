@@ -1,4 +1,4 @@
-ghost use Rattle.std.specs.Prelude.{◌≡◌, ℕ, ◌+◌, ◌*◌, ◌<◌, ◌≤◌, true, false, length, Some, ◌≢◌, slice_index, unwrap_or};
+ghost use Rattle.std.specs.Prelude.{◌≡◌, ℕ, ◌+◌, ◌*◌, ◌<◌, ◌≤◌, length, slice_index, unwrap_or};
 ghost use Rattle.rules.specs.Tabled.{no_row, width};
 ghost use Rattle.synthesis.specs.Courses.{letters_of, loop_of};
 ghost use Rattle.synthesis.specs.Drawn.{Line};
@@ -30,6 +30,8 @@ struct Row<'a> {
     ghost leads: { Line (loop_of course.now) (letters_of course.now) place line },
 }
 
+// What the places weigh is no ghost field: such a field holds only facts with one proof, and this one has a way to an end
+// for each place, which may be one of several.
 impl Row<'_> {
     /// The place with a row that the letter at an index leads to.
     fn onward(&self, j: usize) -> Option<u16>

@@ -1,4 +1,4 @@
-ghost use Rattle.std.specs.Prelude.{◌≡◌, ℕ, ◌^◌, ◌<◌, ◌≤◌, length, if◌then◌else◌, Some, nat_eq, slice_index};
+ghost use Rattle.std.specs.Prelude.{◌≡◌, ℕ, ◌<◌, length, if◌then◌else◌, Some, nat_eq, slice_index};
 ghost use Rattle.property.specs.Checks.{most_nodes};
 ghost use Rattle.property.specs.Nodes.{branches};
 ghost use Rattle.property.specs.Sizes.{size};

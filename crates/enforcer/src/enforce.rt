@@ -29,7 +29,7 @@ fn run_under(heap: Global, rule: Table, limit: Limit, calls: &[Call]) -> Result<
     requires few { (meaning table_rule rule).count ≤ most_size }
     ensures { UnderLimit (meaning table_rule rule.entry) limit calls.now result }
 {
-    // One arm for each limit, since each makes a rule of another type.
+    // A run in each arm, since the table and a cap over it are rules of two types.
     match limit {
         Limit::Unlimited => Ok(run_calls(heap, &rule, calls)?),
         Limit::Standard => Ok(run_calls(heap, &Cap::standard(rule)?, calls)?),

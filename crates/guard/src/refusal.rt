@@ -21,6 +21,7 @@ impl Refusal {
     pub fn number(self) -> u8
         ensures { result ≡ refusal_number self }
     {
+        // A cast, by which the language gives a discriminant.
         self as u8
     }
 }

@@ -13,7 +13,7 @@ pub const MOST_LETTERS: usize = 32;
 pub const MOST_DECLARED: usize = MOST_LETTERS - 2;
 
 /// The letters that a rule speaks of: strictly ascending, with tick and end among them.
-// A fixed array with its length beside it, since no crate below the programs uses the heap.
+// A fixed array with its length beside it, since the crates of letters, files, rules and tables use no heap.
 #[derive(Drop)]
 pub struct Alphabet {
     letters: [Letter; MOST_LETTERS],

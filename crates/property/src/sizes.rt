@@ -95,6 +95,7 @@ impl Nodes {
     {
         let listed = self.listed(file);
         let mut sizes = [0; MOST_NODES];
+        // By number, since a size is worked out from those before it in the same array.
         for (n, node) in listed.nodes.iter().enumerate() {
             sizes[n] = listed.size_of(*node, &sizes[..n]);
         }

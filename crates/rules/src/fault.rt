@@ -23,6 +23,7 @@ impl RuleFault {
     pub fn number(self) -> u8
         ensures { result ≡ rule_number self }
     {
+        // A cast, by which the language gives a discriminant.
         self as u8
     }
 }

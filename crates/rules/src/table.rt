@@ -67,7 +67,9 @@ impl<'a> Table<'a> {
             return None;
         }
         let width = self.letters.len() + LAST_COLUMNS;
-        // One test in 128 bits: the library's checked and saturating products divide, and then `get` tests again.
+        // One test in 128 bits, to which a `usize` widens by a cast alone, and the place beside it alike. Tried with the
+        // library's saturating product, sum and `get`: a letter under a cap takes 156 instructions in place of 130, against
+        // the aim of at most half as much again as a plain walk of the table.
         let index = place as u128 * width as u128 + column as u128;
         if index < self.memory.len() as u128 {
             Some(self.memory[index as usize])
@@ -106,7 +108,7 @@ impl<'a> Table<'a> {
     fn keeps_cell(&self, place: u32, letter: Letter, column: usize) -> bool
         ensures { result ≡ keeps_after (meaning table_rule self.now) place letter (cell_at self.now.letters.now self.now.memory.now self.now.rows place column) }
     {
-        // A `match`, since of a closure that borrows the table `is_none_or` tells no result.
+        // A `match`: tried with `is_none_or`, but the check infers no result of a closure that calls the table's methods.
         match self.cell(place, column) {
             None => true,
             Some(after) => {

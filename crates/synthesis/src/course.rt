@@ -26,8 +26,8 @@ pub(crate) struct CheckedFile<'a> {
 
 /// The walks of a file's nodes, with what is worked out once: where each starts, and which letters lead on from the only
 /// place of a node of size 1, a bit for each letter of the alphabet in order.
-// Two arrays by a node's number beside the nodes that are lent, since the core uses no heap; the letters of a node in one
-// number, since a thousand bits take an eighth of a thousand `bool`s and two sets meet by one `&`.
+// Two arrays by a node's number beside the nodes that are lent, since the core uses no heap. A node's letters are the bits of
+// one number, which takes four bytes in place of 32, and two sets meet by one `&`.
 #[derive(Drop)]
 pub(crate) struct Course<'a> {
     pub(crate) checked: CheckedFile<'a>,

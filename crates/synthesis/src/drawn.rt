@@ -9,8 +9,8 @@ use letters::letter::{LETTER_BOUND, Letter};
 use places::places::{MOST_SIZE, Places};
 use rules::table::{LAST_COLUMNS, NO_ROW};
 
-// Places are widened by `as` where they index: the check shows that this loses nothing, and `usize::from` in each index was
-// tried: it is longer, and each proof then needs its clause.
+// Places are widened by `as` where they index. Tried with `usize::from`: thirteen functions lost their proofs, and an index
+// reads no plainer with it.
 
 /// The places of a loop, drawn into a memory: a row for each place, with a cell for each letter.
 #[derive(Clone, Copy)]
@@ -76,6 +76,7 @@ pub(crate) fn columns_of(course: &Course) -> [Option<u8>; LETTER_BOUND]
 {
     let mut columns = [None; LETTER_BOUND];
     for (j, &letter) in course.checked.letters.iter().enumerate() {
+        // Narrowed by a cast: there are few letters, and `try_from` would leave an error to rule out.
         columns[letter as usize] = Some(j as u8);
     }
     columns
@@ -88,7 +89,7 @@ pub(crate) fn draw(course: &Course, table: &mut [u16])
 {
     let letters = course.checked.letters.len();
     let mut line = [NO_ROW; MOST_LETTERS];
-    // A place is a number: there is no slice of places.
+    // By number: the table's rows would be a slice by `chunks_exact_mut`, of which a proof knows the lengths alone.
     for place in 0..course.size() {
         course.line(place, &mut line);
         let start = place as usize * (letters + LAST_COLUMNS);

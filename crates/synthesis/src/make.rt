@@ -51,6 +51,7 @@ fn weigh_drawn<'a>(course: &Course, table: &mut [u16], working: Working<'a>) -> 
     let places = Drawn {
         cells: table,
         columns: &columns,
+        // Narrowed by a cast: there are few letters, and `try_from` would leave an error to rule out.
         stride: (course.checked.letters.len() + LAST_COLUMNS) as u16,
         size: course.size(),
         boundary: course.boundary(),

@@ -6,8 +6,8 @@ use crate::source::Source;
 use letters::letter::Letter;
 use places::places::Places;
 
-// Places are widened by `as` where they index: the check shows that this loses nothing, and `usize::from` in each index was
-// tried: it is longer, and each proof then needs its clause.
+// Places are widened by `as` where they index. Tried with `usize::from`: thirteen functions lost their proofs, and an index
+// reads no plainer with it.
 
 /// The place, if it is marked.
 pub(crate) fn if_marked(place: Option<u16>, marks: &[u16]) -> Option<u16>

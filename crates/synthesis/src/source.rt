@@ -3,7 +3,7 @@ ghost use Rattle.synthesis.specs.Fillable.{Fillable};
 use letters::letter::Letter;
 use places::places::Places;
 
-// A place is a number, and its bound that of the places of one loop, so the methods ask for it.
+// A place is a number, and marks and numbers of places are lent memories, so the methods ask for their bounds and lengths.
 
 /// What a table is filled from: fair places, and the letters that lead from one to another.
 #[derive(Drop)]

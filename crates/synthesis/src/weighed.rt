@@ -1,5 +1,8 @@
 ghost use Rattle.std.specs.Prelude.{◌≡◌, ◌*◌, ◌≤◌, length};
 
+// A number, and not an Option, since what is lent has numbers of 16 bits; 0 is then for no row and no mark. How many places
+// there are stands beside the four parts, since it is what their lengths are shown equal to.
+
 /// The working memory, lent in four parts: each has a number for each place.
 #[derive(Drop)]
 pub(crate) struct Working<'a> {

@@ -15,8 +15,8 @@ use letters::alphabet::MOST_LETTERS;
 use letters::letter::{Letter, may_insert};
 use rules::table::{LAST_COLUMNS, NO_ROW};
 
-// Places are widened by `as` where they index: the check shows that this loses nothing, and `usize::from` in each index was
-// tried: it is longer, and each proof then needs its clause.
+// Places are widened by `as` where they index. Tried with `usize::from`: thirteen functions lost their proofs, and an index
+// reads no plainer with it.
 
 /// The row of a place, as it is written.
 #[derive(Drop)]
@@ -112,7 +112,9 @@ pub(crate) fn write<'a>(course: &'a Course<'a>, weighed: &'a Weighed<'a>, table:
     ensures { Tells (loop_of course.now) (letters_of course.now) table.new weighed.now.count }
 {
     let width = course.checked.letters.len() + LAST_COLUMNS;
+    // Widened by a cast, as at an index: rows are told apart by it below.
     let count = weighed.count as usize;
+    // By number: of the parts that `chunks_exact_mut` gives a proof knows the lengths alone.
     for (i, &place) in weighed.order[..count].iter().enumerate() {
         row_of(course, weighed, place).write(&mut table[i * width..(i + 1) * width]);
     }

@@ -37,6 +37,7 @@ impl Course<'_> {
         let marks = &marked[..n + 1];
         let mut offsets = [0; MOST_NODES];
         let mut total = 0;
+        // By number, since the marks end before the offsets do.
         for (m, is_member) in marks.iter().enumerate() {
             offsets[m] = total;
             if *is_member {
@@ -111,6 +112,7 @@ impl Course<'_> {
             Node::Choice(start, count) => {
                 let offsets = self.offsets(n);
                 let body = branches_at(self.checked.file, start, count);
+                // By number, as where two nodes' outcomes meet.
                 for (j, letter) in self.checked.letters.iter().enumerate() {
                     out[j] = self.entered_by(&offsets, body, *letter);
                 }

@@ -12,7 +12,8 @@ use property::sizes::MOST_SIZE;
 fn kept_place(place: u32) -> u16
     ensures { result ≡ min place most_size }
 {
-    // A bound and a cast as of a kept size, but one lower, since a place lies below its size.
+    // Not by one function with a kept size, which is cut one higher: with the bound as a parameter it would be no plainer than
+    // this line.
     place.min(u32::from(MOST_SIZE)) as u16
 }
 
@@ -79,6 +80,7 @@ pub(crate) fn meet_all(
 )
     ensures { (j : ℕ) → j < length out.new → slice_index_or out.new j Dead ≡ kept (meet size (slice_index_or out.old j Dead) (slice_index_or others.now j Dead)) }
 {
+    // By number: tried with a `zip`, but of what is written through `iter_mut` under it a proof learns no element.
     for (j, outcome) in out.iter_mut().enumerate() {
         *outcome = met(size, *outcome, others[j]);
     }

@@ -101,6 +101,7 @@ impl Course<'_> {
     {
         let mut out = [Outcome::Dead; MOST_LETTERS];
         self.row(self.root(), place, &mut out);
+        // By number, as where two nodes' outcomes meet.
         for (j, cell) in cells.iter_mut().enumerate() {
             *cell = cell_of(out[j]);
         }

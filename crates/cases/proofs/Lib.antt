@@ -1,1 +1,6 @@
+pub mod Claims
+pub mod Deciding
+pub mod PlateCases
 pub mod ReadingLoop
+pub mod Rounds
+pub mod Trying

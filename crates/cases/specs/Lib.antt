@@ -1,1 +1,3 @@
+pub mod Claims
+pub mod PlateCases
 pub mod Reading

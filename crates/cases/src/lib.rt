@@ -9,6 +9,7 @@ mod guard_tests;
 mod letter_tests;
 #[cfg(test)]
 mod plate;
+pub mod plate_cases;
 pub mod reading;
 #[cfg(test)]
 mod reading_tests;

@@ -245,12 +245,12 @@ impl Plain<'_> {
 
 // So many pseudo-random letters of the mix, the same in each run.
 fn offers() -> Vec<u8> {
-    let mut seed = 1_u64;
+    let mut state = 1_u64;
     let mut next = || {
-        seed = seed
+        state = state
             .wrapping_mul(6_364_136_223_846_793_005)
             .wrapping_add(1_442_695_040_888_963_407);
-        MIX[(seed >> 33) as usize % MIX.len()]
+        MIX[(state >> 33) as usize % MIX.len()]
     };
     (0..OFFERS).map(|_| next()).collect()
 }

@@ -67,7 +67,7 @@ impl<'a> Table<'a> {
             return None;
         }
         let width = self.letters.len() + LAST_COLUMNS;
-        // One test in the widest numbers, to which a `usize` goes by a cast alone, and the place beside it alike. Tried with the
+        // One test in the widest numbers, to which a `usize` goes by a cast alone, and the place alike. Tried with the
         // library's saturating product, sum and `get`: a letter under a cap takes 156 instructions in place of 130, against
         // the aim of at most half as much again as a plain walk of the table.
         let index = place as u128 * width as u128 + column as u128;

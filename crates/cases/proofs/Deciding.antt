@@ -3,12 +3,13 @@ use Rattle.std.proofs.Common.{◌≡◌, ℕ, zero, suc, ◌<◌, ◌≤◌, Boo
 use Rattle.std.proofs.lemmas.Bool.{false≢true, true≢false, cases_Bool, cases_lt, and_parts, or_cases, or_left, not-true, eqb-true, eqb-false, eq-eqb, ne_eqb, cond-true, cond-false}
 use Rattle.letters.specs.Letters.{end, insertable}
 use Rattle.rules.specs.Lists.{and_then, follow_by, Endless}
+use Rattle.rules.proofs.Capping.{some_cond}
 use Rattle.rules.proofs.Follows.{is_some as option_some, none_some, not_end, then_some}
 use Rattle.places.specs.Loops.{Loop, Reached, Live, LeadsToLive, Fair}
 use Rattle.places.specs.Owing.{LoopWay, LoopOwed, LoopSpan}
 use Rattle.synthesis.proofs.Paths.{some_same, first_step, step_on, live_back, reached_after}
 use Rattle.synthesis.proofs.Ways.{way_none, way_more}
-use Rattle.cases.proofs.Trying.{some_letter, each_letter, each_place, leads_to, some_in, each_at, place_at, leads_in, leads_of, implied, least_by, most_by, one_more, AtMost, least_in, least_at, most_in, most_at, more_in, cond_in}
+use Rattle.cases.proofs.Trying.{some_letter, each_letter, each_place, leads_to, some_in, each_at, place_at, leads_in, leads_of, implied, least_by, most_by, one_more, AtMost, least_in, least_at, most_in, most_at, more_in}
 
 module _ (r : Loop) (letters : List ℕ) where
   -- the boundary can be reached from p with n letters or fewer
@@ -106,7 +107,7 @@ module _ (r : Loop) (letters : List ℕ) where
           ([], z, way_none r p g.0 g.1 (live_sound g.0 g.2))
       | inr f ↦
           let l = least_in (way_by n p) letters k (sym (cond-false _ _ _ f) ∙ e) in
-          let c = cond_in (insertable l.0) _ k l.1 in
+          let c = some_cond (insertable l.0) _ k l.1 in
           let m = more_in (and_then (r.next p l.0) (owes n)) k c.1 in
           let g = then_some (r.next p l.0) (owes n) m.0 m.1 in
           let w = owes_sound n g.0 m.0 g.2 in

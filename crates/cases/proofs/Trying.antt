@@ -129,7 +129,3 @@ most_at f (x ∷ ls) l a = elim (or_cases (eqb x l) (among l ls) a) [
 pub more_in : (o : Option ℕ) (k : ℕ) → one_more o ≡ Some k → (j : ℕ) × (o ≡ Some j) × (k ≡ suc j)
 more_in None k e = absurd (none_some e)
 more_in (Some j) k e = (j, refl, sym (some_same _ _ e))
-
-pub cond_in : (b : Bool) (o : Option ℕ) (k : ℕ) → cond b o None ≡ Some k → (b ≡ true) × (o ≡ Some k)
-cond_in true o k e = (refl, e)
-cond_in false o k e = absurd (none_some e)

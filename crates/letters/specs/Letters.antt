@@ -1,5 +1,5 @@
 -- Letters: a kind and a number, in one byte.
-use Rattle.std.specs.Prelude.{◌≡◌, ℕ, ◌+◌, ◌-◌, ◌*◌, ◌<◌, Bool, true, false, cond, Some, None, Option, ◌==◌, nat_lt}
+use Rattle.std.specs.Prelude.{◌≡◌, ℕ, ◌+◌, ◌-◌, ◌*◌, ◌<◌, Bool, true, false, cond, List, Some, None, Option, ◌==◌, codes, nat_lt}
 use Rattle.letters.specs.declared.letter.Kind.{Kind}
 use Rattle.letters.specs.declared.letter.Kind.TheVariants.{Sensor, Received, Sent, Command, Tick, End}
 
@@ -18,6 +18,15 @@ kind_number Sent = 2
 kind_number Command = 3
 kind_number Tick = 4
 kind_number End = 5
+
+-- what a kind prints as
+abbrev pub kind_text : Kind → List ℕ
+kind_text Sensor = codes "sensor"
+kind_text Received = codes "received"
+kind_text Sent = codes "sent"
+kind_text Command = codes "command"
+kind_text Tick = codes "tick"
+kind_text End = codes "end"
 
 -- how many letters a kind has, numbered from 0
 abbrev pub numbers_of : Kind → ℕ

@@ -1,5 +1,5 @@
 -- Marking the family of a node: by branches, from the node down.
-use Rattle.std.proofs.Common.{◌≡◌, ℕ, suc, ◌+◌, ◌-◌, ◌<◌, ◌≤◌, Bool, true, false, ◌&&◌, ◌||◌, eqb, ◌⊎◌, List, ◌++◌, length, get_or, set, sym, refl, ap, ◌∙◌, subst, inl, inr, arith, get_or-set_other, get_or-set_same}
+use Rattle.std.proofs.Common.{◌≡◌, ℕ, suc, ◌+◌, ◌-◌, ◌<◌, ◌≤◌, min, Bool, true, false, ◌&&◌, ◌||◌, eqb, ◌⊎◌, List, ◌++◌, length, get_or, set, sym, refl, ap, ◌∙◌, subst, inl, inr, arith, get_or-set_other, get_or-set_same}
 use Rattle.std.proofs.lemmas.List.{get_or_past}
 use Rattle.std.proofs.lemmas.Bool.{and_parts, and_from, or_cases, or_left, or_right, eqb-true, eqb-false, eq-eqb, cases_eq, false≢true}
 use Rattle.std.proofs.lemmas.Bool.Decides.{same_from_decides}
@@ -42,6 +42,33 @@ module _ (body rest x left : List ℕ) (end : ℕ) (was marked : List Bool) (so_
       one false e =
           ap (λ b. b || names_before (branches left) end m) (get_or-set_other marked (two_bytes x 1) m true false (λ q. eqb-false (two_bytes x 1) m e (sym q)))
           ∙ sym (ap (λ b. get_or marked m false || (b || names_before (branches left) end m)) e)
+
+  -- where the end is marked, marking it once more changes nothing
+  again : end < length marked → get_or marked end false ≡ true → Marking body left end was marked → Marking body left end was (set marked end true)
+  again fits here as_it_is m = ap (λ b. b || names_before (branches left) end m) (one (eqb end m) refl) ∙ as_it_is m
+    where
+      one : (b : Bool) → eqb end m ≡ b → get_or (set marked end true) m false ≡ get_or marked m false
+      one true e =
+          subst (λ k. get_or (set marked end true) k false ≡ get_or marked k false) (eqb-true end m e)
+          (get_or-set_same marked end true false fits ∙ sym here)
+      one false e = get_or-set_other marked end m true false (λ q. eqb-false end m e (sym q))
+
+  -- the branch marks what it names, or the end
+  pub marking_step : end < length marked → get_or marked end false ≡ true → Marking body left end was (set marked (min (two_bytes x 1) end) true)
+  marking_step fits here = elim (lt_or_ge (two_bytes x 1) end) [
+    | inl l ↦ subst (λ k. Marking body left end was (set marked k true)) (omega (arith, l)) (marking_more l (omega (arith, fits)))
+    | inr h ↦ subst (λ k. Marking body left end was (set marked k true)) (omega (arith, h)) (again fits here (marking_skip h))
+  ]
+
+-- a further mark leaves what is marked
+pub marked_still : (marked : List Bool) (k n : ℕ) → n < length marked → get_or marked n false ≡ true → get_or (set marked k true) n false ≡ true
+marked_still marked k n fits e = one (eqb k n) refl
+  where
+    one : (b : Bool) → eqb k n ≡ b → get_or (set marked k true) n false ≡ true
+    one true q =
+        let same : k ≡ n = eqb-true k n q in
+        subst (λ i. get_or (set marked k true) i false ≡ true) same (get_or-set_same marked k true false (omega (arith, same, fits)))
+    one false q = get_or-set_other marked k n true false (λ p. eqb-false k n q (sym p)) ∙ e
 
 pub marking_all : (body rest : List ℕ) (end : ℕ) (was marked : List Bool) → Marking body rest end was marked → length rest < 3 → MarksAlso (names_before (branches body) end) was marked
 unfolding some_branch

@@ -1,5 +1,5 @@
 //! The marks of a family, for any list of nodes: a branch counts only where it names an earlier node.
-ghost use Rattle.std.specs.Prelude.{◌≡◌, ℕ, ◌<◌, ◌≤◌, false, length, ◌==◌, slice_index_or};
+ghost use Rattle.std.specs.Prelude.{◌≡◌, ℕ, ◌<◌, ◌≤◌, true, false, length, ◌==◌, slice_index_or};
 ghost use Rattle.property.specs.Checks.{most_nodes};
 ghost use Rattle.property.specs.Meant.{listed};
 ghost use Rattle.property.specs.Nodes.{branches};
@@ -11,16 +11,15 @@ use crate::listed::Listed;
 use crate::node::{MOST_NODES, Node};
 use records::body::BRANCH_BYTES;
 
-/// Marks the nodes before `end` that the branches in a body name.
+/// Marks the nodes before `end`, which is marked, that the branches in a body name.
 fn mark_branches_before(body: &[u8], end: usize, marked: &mut [bool])
-    requires { end ≤ length marked.old }
+    requires within { end < length marked.old }
+    requires itself { slice_index_or marked.old end false ≡ true }
     ensures { MarksAlso (names_before (branches body.now) end) marked.old marked.new }
 {
     for branch in body.chunks_exact(BRANCH_BYTES) {
-        let number = number_of(branch);
-        if number < end {
-            marked[number] = true;
-        }
+        // No test, which would cost more than a mark: a branch that names no node before `end` marks `end` once more.
+        marked[number_of(branch).min(end)] = true;
     }
 }
 

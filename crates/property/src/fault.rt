@@ -1,6 +1,6 @@
-ghost use Rattle.std.specs.Prelude.{◌≡◌};
+ghost use Rattle.std.specs.Prelude.{◌≡◌, Some};
 ghost use Rattle.property.specs.declared.fault.PropertyFault.TheVariants.{Read};
-ghost use Rattle.property.specs.Faults.{property_report};
+ghost use Rattle.property.specs.Faults.{property_report, property_text};
 
 use crate::node::MOST_NODES;
 use letters::refusal::Report;
@@ -52,6 +52,8 @@ impl PropertyFault {
 }
 
 impl fmt::Display for PropertyFault {
+    ghost output = { λ fault. Some (property_text fault) };
+
     fn fmt<W: fmt::Write>(&self, f: &mut fmt::Formatter<W>) -> fmt::Result {
         match self {
             PropertyFault::Read(fault) => write!(f, "{fault}"),

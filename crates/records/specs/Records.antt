@@ -1,5 +1,5 @@
 -- Records: the body's length in two bytes, the kind in two bytes, then the body; every number has its lower byte first.
-use Rattle.std.specs.Prelude.{ℕ, ◌+◌, ◌*◌, ◌%◌, Bool, cond, ◌&&◌, List, ◌==◌, nat_le, nat_lt, slice_index}
+use Rattle.std.specs.Prelude.{ℕ, ◌+◌, ◌*◌, ◌%◌, Bool, cond, ◌&&◌, List, ◌==◌, codes, nat_le, nat_lt, slice_index}
 use Rattle.records.specs.declared.record.Record.{Record}
 use Rattle.records.specs.declared.record.Record.TheVariants.{Letter, Nothing, Choice, Sequence, Both, Lap, All}
 
@@ -28,6 +28,16 @@ kind_of (Sequence b) = 4
 kind_of (Both b) = 5
 kind_of (Lap b) = 6
 kind_of (All b) = 7
+
+-- what a record prints as: the name of its kind
+abbrev pub record_text : Record → List ℕ
+record_text (Letter b) = codes "Letter"
+record_text (Nothing b) = codes "Nothing"
+record_text (Choice b) = codes "Choice"
+record_text (Sequence b) = codes "Sequence"
+record_text (Both b) = codes "Both"
+record_text (Lap b) = codes "Lap"
+record_text (All b) = codes "All"
 
 abbrev pub body_of : Record → List ℕ
 body_of (Letter b) = b.now

@@ -1,5 +1,5 @@
-ghost use Rattle.std.specs.Prelude.{◌≡◌};
-ghost use Rattle.records.specs.Faults.{read_report};
+ghost use Rattle.std.specs.Prelude.{◌≡◌, Some};
+ghost use Rattle.records.specs.Faults.{read_report, read_text};
 
 use crate::reader::MOST_BYTES;
 use letters::refusal::Report;
@@ -34,6 +34,8 @@ impl ReadFault {
 }
 
 impl fmt::Display for ReadFault {
+    ghost output = { λ fault. Some (read_text fault) };
+
     fn fmt<W: fmt::Write>(&self, f: &mut fmt::Formatter<W>) -> fmt::Result {
         match self {
             ReadFault::TooLong => write!(f, "the file is over {MOST_BYTES} bytes"),

@@ -1,5 +1,5 @@
-ghost use Rattle.std.specs.Prelude.{◌≡◌};
-ghost use Rattle.records.specs.Records.{body_of};
+ghost use Rattle.std.specs.Prelude.{◌≡◌, Some};
+ghost use Rattle.records.specs.Records.{body_of, record_text};
 
 use std::fmt;
 
@@ -33,6 +33,8 @@ impl<'a> Record<'a> {
 }
 
 impl<'a> fmt::Display for Record<'a> {
+    ghost output = { λ record_is. Some (record_text record_is) };
+
     fn fmt<W: fmt::Write>(&self, f: &mut fmt::Formatter<W>) -> fmt::Result {
         f.write_str(match self {
             Record::Letter(_) => "Letter",

@@ -37,7 +37,7 @@ fn print_branches(rt: &HostRuntime, body: &[u8]) -> io::Result<()> {
     println!(rt; "")
 }
 
-/// Prints the nodes that a body names: none, one or two.
+/// Prints the one node that a body names, or the two.
 fn print_nodes(rt: &HostRuntime, body: &[u8]) -> io::Result<()> {
     match (number(body, 0), number(body, 2)) {
         (Some(first), Some(second)) => println!(rt; ": {first}, {second}"),
@@ -48,6 +48,10 @@ fn print_nodes(rt: &HostRuntime, body: &[u8]) -> io::Result<()> {
 
 /// Prints a node: its offset, kind and number, and what it names.
 fn print_node(rt: &HostRuntime, at: usize, record: Record, node: usize) -> io::Result<()> {
+    if let Record::Nothing(_) = record {
+        // One write, since a node of this kind names nothing.
+        return println!(rt; "{at} {record} node {node}");
+    }
     print!(rt; "{at} {record} node {node}")?;
     match record {
         Record::Choice(body) => print_branches(rt, body),

@@ -1,5 +1,5 @@
 //! `timing TIMES FILE ..` makes the table of each property file so many times, and prints how many rows it has or which
-//! refusal it gets. `./measure` takes the time.
+//! refusal it gets; it is timed by hand.
 #![tactic(auto)]
 
 use letters::alphabet::Alphabet;

@@ -1,4 +1,4 @@
-ghost use Rattle.std.specs.Prelude.{◌≡◌, ℕ, ◌<◌, length, if◌then◌else◌, Some, nat_eq, slice_index};
+ghost use Rattle.std.specs.Prelude.{◌≡◌, ℕ, ◌^◌, ◌<◌, length, if◌then◌else◌, Some, nat_eq, slice_index};
 ghost use Rattle.property.specs.Checks.{most_nodes};
 ghost use Rattle.property.specs.Nodes.{branches};
 ghost use Rattle.property.specs.Sizes.{size};
@@ -76,7 +76,8 @@ impl CheckedFile<'_> {
     /// The letters by which the branches lead to a node whose walk is done where it starts.
     fn ending_letters(&self, starts: &[Outcome; MOST_NODES], body: &[u8]) -> u32
         requires { (l m : ℕ) → target (branches body.now) l ≡ Some m → m < most_nodes }
-        ensures { (j : ℕ) → j < length self.now.letters.now → bit result j ≡ ends_at starts.now (target (branches body.now) (slice_index self.now.letters.now j)) }
+        ensures bits { (j : ℕ) → j < length self.now.letters.now → bit result j ≡ ends_at starts.now (target (branches body.now) (slice_index self.now.letters.now j)) }
+        ensures below { result < 2 ^ length self.now.letters.now }
     {
         let mut bits = 0;
         for (j, letter) in self.letters.iter().enumerate() {

@@ -20,7 +20,7 @@ returns-in-Nothing c one j h = absurd (nothing_none c.args.self.now.letters.now 
 pub returns-in-Choice : goal.returns-in-Choice
 returns-in-Choice c one j h =
     let is = node_as c.args.self.now.file.now c.args.self.now.nodes.now _ _ _ c.node.ensures c.in-Choice.is in
-    c.ending_letters.ensures j h
+    c.ending_letters.ensures.bits j h
     ∙ ap (λ (body : List ℕ). ends_at c.args.starts.now (target (branches body) (get_or c.args.self.now.letters.now j 0))) c.branches_at.ensures
     ∙ choice_ones c.args.self.now.letters.now (checked_nodes c.args.self.now) c.args.self.now.grounds.sound c.args.n _ is one (get_or c.args.self.now.letters.now j 0) c.args.starts.now c.requires.within c.requires.starts
 

@@ -1,5 +1,5 @@
 -- The bits of a number.
-use Rattle.std.proofs.Common.{◌≡◌, ℕ, ◌+◌, ◌*◌, ◌^◌, ◌%◌, ◌<◌, ◌≤◌, min, Bool, true, false, ◌&&◌, eqb, ◌⊎◌, sym, ap, ◌∙◌, ap₂, inl, inr, subst, arith}
+use Rattle.std.proofs.Common.{◌≡◌, ℕ, ◌+◌, ◌*◌, ◌^◌, ◌%◌, ◌<◌, min, Bool, true, false, ◌&&◌, eqb, ◌⊎◌, sym, ap, ◌∙◌, ap₂, inl, inr, subst, arith}
 use lib.Bits.{bit_and}
 use mir.Syntax.{w32}
 use Rattle.std.specs.Int.{bit_at}

@@ -1,5 +1,5 @@
 -- Sizes as they are kept, added and multiplied.
-use Rattle.std.proofs.Common.{cond, map, filter, fold, zip, [], ◌∷◌, length, ◌≡◌, ℕ, zero, suc, ◌+◌, ◌*◌, ◌<◌, ◌≤◌, max, Bool, true, false, List, get_or, sym, refl, ap, ◌∙◌, ap₂, inl, inr, mul_comm, mul-zero, zero-mul, mul-suc, arith}
+use Rattle.std.proofs.Common.{cond, fold, zip, [], ◌∷◌, length, ◌≡◌, ℕ, zero, suc, ◌+◌, ◌*◌, ◌<◌, ◌≤◌, max, Bool, true, false, List, get_or, sym, refl, ap, ◌∙◌, ap₂, inl, inr, mul_comm, mul-zero, zero-mul, mul-suc, arith}
 use Rattle.property.specs.declared.node.Node.{Node}
 use Rattle.property.specs.declared.node.Node.TheVariants.{Nothing}
 use Rattle.property.specs.Sized.{most_size, cut, counted, marked_sum}
@@ -51,21 +51,18 @@ total_front f (suc n) = omega (arith, total_front f n)
 abbrev pub marked_weight : List Node → List ℕ → List Bool → ℕ → ℕ
 marked_weight nodes sizes marked m = cond (get_or marked m false) (counted (get_or nodes m Nothing) (get_or sizes m 0)) 0
 
-abbrev weighed : List Node → List ℕ → List Bool → List ℕ
-weighed nodes sizes marked = map (λ (x : (Node × ℕ) × Bool). counted x.0.0 x.0.1) (filter (λ (x : (Node × ℕ) × Bool). x.1) (zip (zip nodes sizes) marked))
-
-abbrev summed : ℕ → List ℕ → ℕ
-summed a ws = fold (λ total own. cut (total + own)) a ws
+abbrev summed : ℕ → List ((Node × ℕ) × Bool) → ℕ
+summed a xs = fold (λ (total : ℕ) (x : (Node × ℕ) × Bool). cond x.1 (cut (total + counted x.0.0 x.0.1)) total) a xs
 
 sum_from : (a : ℕ) (nodes : List Node) (sizes : List ℕ) (marked : List Bool) → length sizes ≤ length nodes → length sizes ≤ length marked
-    → summed (cut a) (weighed nodes sizes marked) ≡ cut (a + total (marked_weight nodes sizes marked) (length sizes))
+    → summed (cut a) (zip (zip nodes sizes) marked) ≡ cut (a + total (marked_weight nodes sizes marked) (length sizes))
 unfolding total
 sum_from a [] [] marked h k = omega arith
 sum_from a [] (s ∷ ss) marked h k = absurd (omega arith)
 sum_from a (n ∷ ns) [] marked h k = omega arith
 sum_from a (n ∷ ns) (s ∷ ss) [] h k = absurd (omega arith)
 sum_from a (n ∷ ns) (s ∷ ss) (true ∷ ms) h k =
-    ap (λ b. summed b (weighed ns ss ms)) (cut_sum_left a (counted n s))
+    ap (λ b. summed b (zip (zip ns ss) ms)) (cut_sum_left a (counted n s))
     ∙ sum_from (a + counted n s) ns ss ms (omega arith) (omega arith)
     ∙ ap cut (omega (arith, total_front (marked_weight (n ∷ ns) (s ∷ ss) (true ∷ ms)) (length ss)))
 sum_from a (n ∷ ns) (s ∷ ss) (false ∷ ms) h k =

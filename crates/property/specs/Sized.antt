@@ -1,5 +1,5 @@
 -- What the sizes of a program's nodes are worked out from, and how they are kept.
-use Rattle.std.specs.Prelude.{map, filter, fold, ◌≡◌, ℕ, ◌+◌, ◌*◌, ◌<◌, min, Bool, true, false, ◌&&◌, ◌||◌, List, length, take, drop, nat_eq, nat_lt, slice_index, slice_index_or}
+use Rattle.std.specs.Prelude.{cond, fold, ◌≡◌, ℕ, ◌+◌, ◌*◌, ◌<◌, min, Bool, true, false, ◌&&◌, ◌||◌, List, length, take, drop, nat_eq, nat_lt, slice_index, slice_index_or}
 use Rattle.records.specs.Records.{branch_bytes}
 use Rattle.property.specs.declared.node.Node.{Node}
 use Rattle.property.specs.declared.node.Node.TheVariants.{Nothing, Choice, Sequence, Both, Lap, All}
@@ -58,4 +58,4 @@ counted (All a b) own = own
 
 -- what the marked nodes count together, where each node has its size and its mark beside it
 abbrev pub marked_sum : List ((Node × ℕ) × Bool) → ℕ
-marked_sum xs = fold (λ total own. cut (total + own)) 0 (map (λ (x : (Node × ℕ) × Bool). counted x.0.0 x.0.1) (filter (λ (x : (Node × ℕ) × Bool). x.1) xs))
+marked_sum xs = fold (λ (total : ℕ) (x : (Node × ℕ) × Bool). cond x.1 (cut (total + counted x.0.0 x.0.1)) total) 0 xs

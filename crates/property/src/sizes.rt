@@ -51,9 +51,13 @@ fn add_marked(nodes: &[Node], sizes: &[u16], marked: &[bool]) -> u16
         .iter()
         .zip(sizes)
         .zip(marked)
-        .filter(|(_, marked)| **marked)
-        .map(|((node, own), _)| weight_of(*node, *own))
-        .fold(0, sum)
+        .fold(0, |total, ((node, own), is_marked)| {
+            if *is_marked {
+                sum(total, weight_of(*node, *own))
+            } else {
+                total
+            }
+        })
 }
 
 impl Listed<'_> {

@@ -1,4 +1,4 @@
-use Rattle.std.proofs.Common.{unwrap_or, sym, ap, ◌∙◌, arith}
+use Rattle.std.proofs.Common.{unwrap_or, rules, sym, ap, ◌∙◌, arith}
 use Rattle.letters.specs.Letters.{end}
 use Rattle.rules.specs.Valued.{meaning}
 use Rattle.guard.proofs.Writing.{sofar_none, sofar_more, sofar_all}
@@ -18,4 +18,4 @@ returns g c =
     let halves = c.split_at_mut-way.ensures in
     let e = sofar_all (meaning g.R.Rule c.args.rule.now) c.args.self c.args.out.now _ _ _ _ _ _ _ (sym c.if-not-is_live.ensures) c.owed_at-owed.ensures (omega (arith, halves.front_len)) c.if-owed-out.false
     halves.front_len halves.back c.loop-slot.invariant (c.unwrap_or-place-2.ensures ∙ ap (λ o. unwrap_or o c.loop-slot.place) c.following-2.ensures) in
-    record { answer = e.answer; wrote = e.wrote; led = e.led }
+    record { answer = e.answer; wrote = search (rules, e.wrote); led = e.led }
